@@ -1,0 +1,7 @@
+-- How often a shelf or a sink has failed. It alone raises the count, so a caller that reports a fault of its own
+-- making is refused.
+use Rattle.std.specs.Prelude.{◌≡◌, ℕ, ◌-◌, ◌^◌, ◌<◌, ◌⊎◌}
+
+-- A count rose in a call: it is greater than before, or it stands at the end of its type.
+abbrev pub Rose : ℕ → ℕ → Type 0
+Rose before after = (before < after) ⊎ (after ≡ 2 ^ 64 - 1)

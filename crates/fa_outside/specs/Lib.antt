@@ -1,0 +1,5 @@
+pub mod Appended
+pub mod Faults
+pub mod Files
+pub mod MemShelf
+pub mod MemSink

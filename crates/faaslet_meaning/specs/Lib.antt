@@ -1,0 +1,9 @@
+pub mod Productions
+pub mod Numbers
+pub mod Grammar
+pub mod Minimal
+pub mod Configuration
+pub mod Step
+pub mod Runs
+pub mod Report
+pub mod Words

@@ -1,0 +1,94 @@
+//! The trusted edge: what is read of real files and written to standard output. Neither tells content.
+
+ghost use Rattle.std.specs.Prelude.{[], None, is_some};
+
+use fa_outside::{Failed, Shelf, Sink};
+use std::fs::{Files, open};
+use std::io::Read;
+
+const PIECE: usize = 4096;
+
+/// Real files, by their paths.
+#[derive(Drop)]
+pub struct FileShelf<'r, R: Files> {
+    rt: &'r R,
+    file: Option<R::File>,
+    faults: u64,
+}
+
+impl<'r, R: Files> FileShelf<'r, R> {
+    /// A shelf with no file open.
+    pub fn new(rt: &'r R) -> FileShelf<'r, R> {
+        FileShelf {
+            rt,
+            file: None,
+            faults: 0,
+        }
+    }
+}
+
+impl<R: Files> Shelf for FileShelf<'_, R> {
+    ghost told = { λ _. None };
+
+    ghost is_open = { λ s. is_some s.file };
+
+    ghost rest = { λ _. [] };
+
+    ghost faults = { λ s. s.faults };
+
+    fn open(&mut self, name: &str) -> Result<(), Failed> {
+        self.file = open(self.rt, name).ok();
+        if self.file.is_none() {
+            self.faults = self.faults.saturating_add(1);
+            return Err(Failed);
+        }
+        Ok(())
+    }
+
+    /// Reads through a piece of its own, so that a read that fails leaves `buf` as it was.
+    fn read(&mut self, buf: &mut [u8]) -> Result<usize, Failed> {
+        let mut piece = [0; PIECE];
+        let room = PIECE.min(buf.len());
+        if let Some(file) = &mut self.file
+            && let Ok(n) = file.read(&mut piece[..room])
+        {
+            buf[..n].copy_from_slice(&piece[..n]);
+            return Ok(n);
+        }
+        self.file = None;
+        self.faults = self.faults.saturating_add(1);
+        Err(Failed)
+    }
+}
+
+/// Standard output.
+#[derive(Drop)]
+pub struct OutSink<'r, P: Print> {
+    rt: &'r P,
+    faults: u64,
+}
+
+impl<'r, P: Print> OutSink<'r, P> {
+    pub fn new(rt: &'r P) -> OutSink<'r, P> {
+        OutSink { rt, faults: 0 }
+    }
+}
+
+impl<P: Print> Sink for OutSink<'_, P> {
+    ghost written = { λ _. None };
+
+    ghost faults = { λ s. s.faults };
+
+    fn write(&mut self, bytes: &[u8]) -> Result<usize, Failed> {
+        if bytes.is_empty() {
+            return Ok(0);
+        }
+        match self.rt.write_some(bytes) {
+            Ok(n) if n > 0 => Ok(n),
+            _ => {
+                self.faults = self.faults.saturating_add(1);
+                Err(Failed)
+            }
+        }
+    }
+}

@@ -1,0 +1,19 @@
+-- Words and commands of the program as contracts see them.
+use Rattle.std.specs.Prelude.{ℕ, List, String, map}
+use Rattle.std.specs.String.{string_bytes}
+use Rattle.std.specs.declared.alloc.Global.{Global}
+use Rattle.faaslet_meaning.specs.Words as words
+use Rattle.faasm_top.specs.declared.words.Command.{Command}
+use Rattle.faasm_top.specs.declared.words.Command.TheVariants.{Call}
+
+-- the words as texts
+abbrev pub texts : List (String Global) → List (List ℕ)
+texts ws = map (λ w. string_bytes w) ws
+
+-- a command without where its values lie in memory
+abbrev pub command_of : Command → words.Command
+command_of (Call file input fuel) = words.call file.now input fuel
+
+-- the file that a command names
+abbrev pub file_word : Command → List ℕ
+file_word (Call file input fuel) = file.now

@@ -1,0 +1,12 @@
+//! Commands: from the words to the line that is written and the status.
+#![tactic(auto)]
+
+mod commands;
+mod report;
+mod words;
+
+pub use commands::{answer, one_line};
+pub use words::{Command, WordsFault, read_words};
+
+#[cfg(test)]
+mod tests;

@@ -1,0 +1,2 @@
+pub mod MinimalLaws
+pub mod ReaderLaws
