@@ -1,5 +1,4 @@
--- How often a shelf or a sink has failed. It alone raises the count, so a caller that reports a fault of its own
--- making is refused.
+-- How often a shelf or a sink has failed. A body that reports a fault where none was counted is refused.
 use Rattle.std.specs.Prelude.{◌≡◌, ℕ, ◌-◌, ◌^◌, ◌<◌, ◌⊎◌}
 
 -- A count rose in a call: it is greater than before, or it stands at the end of its type.

@@ -1,4 +1,5 @@
-//! The outside: files that are read and a stream that is written, as traits, with stand-ins in memory.
+//! The outside: files that are read and a stream that is written, as traits, with stand-ins in
+//! memory.
 #![tactic(auto)]
 
 mod fault;

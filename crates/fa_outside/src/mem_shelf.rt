@@ -31,7 +31,11 @@ impl Model for MemShelf {
 
     ghost Value = { Shelved };
 
-    ghost view = { λ s. record { files = files_of s.files.items; unread = option_map (rest_at (files_of s.files.items)) s.place; faults = s.faults } };
+    ghost view = { λ s. record {
+      files = files_of s.files.items;
+      unread = option_map (rest_at (files_of s.files.items)) s.place;
+      faults = s.faults;
+    } };
 }
 
 impl MemShelf {
@@ -119,9 +123,12 @@ impl Shelf for MemShelf {
     #[tactic(auto, using(crate::proofs::Named::moved))]
     fn read(&mut self, buf: &mut [u8]) -> Result<usize, Failed>
         ensures open { IsOk result ↔ IsSome self.old.unread }
-        ensures count { IfSome self.old.unread (λ rest. result ≡ Ok (min (length rest) (length buf.old))) }
-        ensures front { IfSome self.old.unread (λ rest. IfOk result (λ n. take n buf.new ≡ take n rest)) }
-        ensures rest { IfOk result (λ n. self.new ≡ record self.old { unread = option_map (drop n) self.old.unread }) }
+        ensures count { IfSome self.old.unread (λ rest.
+            result ≡ Ok (min (length rest) (length buf.old))) }
+        ensures front { IfSome self.old.unread (λ rest.
+            IfOk result (λ n. take n buf.new ≡ take n rest)) }
+        ensures rest { IfOk result (λ n.
+            self.new ≡ record self.old { unread = option_map (drop n) self.old.unread }) }
         ensures closed { OnErr result (self.new ≡ failed self.old) }
         ensures kept { OnErr result (buf.new ≡ buf.old) }
         ensures counted { self.old.faults ≤ self.new.faults }

@@ -55,7 +55,10 @@ impl Sink for MemSink {
     fn write(&mut self, bytes: &[u8]) -> Result<usize, Failed>
         ensures takes { IsOk result ↔ ((bytes.now ≡ []) ⊎ (0 < self.old.room)) }
         ensures count { IfOk result (λ n. n ≡ min (length bytes.now) self.old.room) }
-        ensures taken { IfOk result (λ n. self.new ≡ record self.old { bytes = self.old.bytes ++ take n bytes.now; room = self.old.room - n }) }
+        ensures taken { IfOk result (λ n. self.new ≡ record self.old {
+          bytes = self.old.bytes ++ take n bytes.now;
+          room = self.old.room - n;
+        }) }
         ensures full { OnErr result (self.new ≡ refused self.old) }
         ensures counted { self.old.faults ≤ self.new.faults }
     {

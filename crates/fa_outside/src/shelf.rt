@@ -34,8 +34,10 @@ pub trait Shelf {
     fn read(&mut self, buf: &mut [u8]) -> Result<usize, Failed>
         ensures open { OnOk result (IsTrue (is_open self.old) × IsTrue (is_open self.new)) }
         ensures within { IfOk result (λ n. n ≤ length buf.old) }
-        ensures content { IfOk result (λ n. IsSome (told self.old) → rest self.old ≡ take n buf.new ++ rest self.new) }
-        ensures nothing { IfOk result (λ n. IsSome (told self.old) → (n ≡ 0) ↔ ((length buf.old ≡ 0) ⊎ (rest self.old ≡ []))) }
+        ensures content { IfOk result (λ n. IsSome (told self.old) →
+            rest self.old ≡ take n buf.new ++ rest self.new) }
+        ensures nothing { IfOk result (λ n. IsSome (told self.old) →
+            (n ≡ 0) ↔ ((length buf.old ≡ 0) ⊎ (rest self.old ≡ []))) }
         ensures closed { OnErr result (is_open self.new ≡ false) }
         ensures kept { OnErr result (buf.new ≡ buf.old) }
         ensures told { told self.new ≡ told self.old }
@@ -60,7 +62,8 @@ pub fn read_file<F: Shelf>(
     ensures ended { OnOk result (IsSome (F.told shelf.old) → F.rest shelf.new ≡ []) }
 
     // It is given up once one byte more than the limit was read.
-    ensures too_long { IsErrOf result ReadFault.TooLong → (read : List ℕ) × (length read ≡ limit + 1)
+    ensures too_long { IsErrOf result ReadFault.TooLong →
+        (read : List ℕ) × (length read ≡ limit + 1)
         × IsFile (F.told shelf.old) name.now (read ++ F.rest shelf.new) }
     ensures absent { IsAbsent (F.told shelf.old) name.now → IsErrOf result ReadFault.Failed }
     ensures failed { IsErrOf result ReadFault.Failed →

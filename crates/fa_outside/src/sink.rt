@@ -6,7 +6,7 @@ ghost use Rattle.fa_outside.specs.Appended.{Appends, AppendsPart};
 
 use crate::fault::Failed;
 
-/// A stream that bytes are written to.
+/// A stream that bytes are written to, a piece at a time.
 pub trait Sink {
     /// What was written, where the sink tells it.
     ghost written: { Self → Option (List ℕ) };
@@ -16,7 +16,8 @@ pub trait Sink {
 
     /// Writes a front of the bytes, and answers how many they are: at least one, where there is one.
     fn write(&mut self, bytes: &[u8]) -> Result<usize, Failed>
-        ensures written { IfOk result (λ n. Appends (written self.old) (written self.new) (take n bytes.now)) }
+        ensures written { IfOk result (λ n.
+            Appends (written self.old) (written self.new) (take n bytes.now)) }
         ensures within { IfOk result (λ n. n ≤ length bytes.now) }
         ensures some { IfOk result (λ n. 0 < length bytes.now → 0 < n) }
         ensures empty { bytes.now ≡ [] → result ≡ Ok 0 }

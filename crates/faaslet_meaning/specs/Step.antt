@@ -11,13 +11,13 @@ use Rattle.faaslet_meaning.specs.declared.outcome.Trap.TheVariants as trap
 use Rattle.faaslet_meaning.specs.Configuration.{Configuration, Next, goes, ends, stuck}
 
 -- how many values may be on the stack, the locals of all frames included
-abbrev pub VALUES : ℕ
-VALUES = 65536
+abbrev pub value_limit : ℕ
+value_limit = 65536
 
 -- one value more, or a trap where there are as many as may be
 abbrev pub push : Configuration → ℕ → Next
 push c v =
-    if nat_lt (length c.values) VALUES then goes (record c { values = v ∷ c.values }) else ends c (outcome.Trap trap.StackExhausted)
+    if nat_lt (length c.values) value_limit then goes (record c { values = v ∷ c.values }) else ends c (outcome.Trap trap.StackExhausted)
 
 -- the end of the body, where its one result is on the stack; it is read as signed
 abbrev pub leave : Configuration → List ℕ → Next

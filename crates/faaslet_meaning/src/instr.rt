@@ -10,9 +10,9 @@ pub enum ValType {
     F64,
 }
 
-/// One instruction of a body that is written out flat: blocks, loops and ifs stand as their beginning,
-/// their `Else` and their `End`. Loads and stores hold opcode, alignment and offset, and a numeric
-/// instruction its opcode. Floats are held by their bits.
+/// One instruction of a body that is written out flat: blocks, loops and ifs stand as their
+/// beginning, their `Else` and their `End`. Loads and stores hold opcode, alignment and offset, and a
+/// numeric instruction its opcode. Floats are held by their bits.
 #[derive(Debug, Drop, PartialEq)]
 pub enum Instr {
     Unreachable,

@@ -8,11 +8,13 @@ ghost use Rattle.faaslet_meaning.specs.Words.{Command, CommandOf};
 
 /// A call comes to one outcome at most, with one output and one number of used fuel.
 pub fn one_outcome()
-    ensures { (m : Module) (input : List ℕ) (fuel : ℕ) (o p : Outcome) (x y : List ℕ) (used spent : ℕ)
-        → Runs m input fuel o x used → Runs m input fuel p y spent → (o ≡ p) × (x ≡ y) × (used ≡ spent) }
+    ensures { (m : Module) (input : List ℕ) (fuel : ℕ)
+        (o p : Outcome) (x y : List ℕ) (used spent : ℕ) → Runs m input fuel o x used
+        → Runs m input fuel p y spent → (o ≡ p) × (x ≡ y) × (used ≡ spent) }
 {}
 
 /// Words are one command at most.
 pub fn one_command()
-    ensures { (words : List (List ℕ)) (c d : Command) → CommandOf c words → CommandOf d words → c ≡ d }
+    ensures { (words : List (List ℕ)) (c d : Command)
+        → CommandOf c words → CommandOf d words → c ≡ d }
 {}

@@ -1,5 +1,5 @@
-//! What the other crates speak of: the types of modules and of outcomes, the definitions that contracts
-//! cite, in `specs/`, and the laws that hold of those alone.
+//! What the other crates speak of: the types of modules and of outcomes, the definitions that
+//! contracts cite, in `specs/`, and the laws that hold of those alone.
 #![tactic(auto)]
 
 mod instr;

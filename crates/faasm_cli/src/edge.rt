@@ -1,6 +1,8 @@
-//! The trusted edge: what is read of real files and written to standard output. Neither tells content.
+//! The trusted edge: what is read of real files and written to standard output. Neither tells
+//! content.
 
-ghost use Rattle.std.specs.Prelude.{[], None, is_some};
+ghost use Rattle.std.specs.Prelude.{◌≡◌, ◌≤◌, [], None, false, is_some};
+ghost use Rattle.fa_outside.specs.Faults.{Rose};
 
 use fa_outside::{Failed, Shelf, Sink};
 use std::fs::{Files, open};
@@ -18,12 +20,26 @@ pub struct FileShelf<'r, R: Files> {
 
 impl<'r, R: Files> FileShelf<'r, R> {
     /// A shelf with no file open.
-    pub fn new(rt: &'r R) -> FileShelf<'r, R> {
+    pub fn new(rt: &'r R) -> FileShelf<'r, R>
+        ensures closed { is_some result.file ≡ false }
+        ensures faults { result.faults ≡ 0 }
+    {
         FileShelf {
             rt,
             file: None,
             faults: 0,
         }
+    }
+
+    /// Counts a fault, after which nothing is open.
+    fn fail(&mut self) -> Failed
+        ensures closed { is_some self.new.file ≡ false }
+        ensures counted { self.old.faults ≤ self.new.faults }
+        ensures rose { Rose self.old.faults self.new.faults }
+    {
+        self.file = None;
+        self.faults = self.faults.saturating_add(1);
+        Failed
     }
 }
 
@@ -37,12 +53,13 @@ impl<R: Files> Shelf for FileShelf<'_, R> {
     ghost faults = { λ s. s.faults };
 
     fn open(&mut self, name: &str) -> Result<(), Failed> {
-        self.file = open(self.rt, name).ok();
-        if self.file.is_none() {
-            self.faults = self.faults.saturating_add(1);
-            return Err(Failed);
+        match open(self.rt, name) {
+            Ok(file) => {
+                self.file = Some(file);
+                Ok(())
+            }
+            Err(_) => Err(self.fail()),
         }
-        Ok(())
     }
 
     /// Reads through a piece of its own, so that a read that fails leaves `buf` as it was.
@@ -55,9 +72,7 @@ impl<R: Files> Shelf for FileShelf<'_, R> {
             buf[..n].copy_from_slice(&piece[..n]);
             return Ok(n);
         }
-        self.file = None;
-        self.faults = self.faults.saturating_add(1);
-        Err(Failed)
+        Err(self.fail())
     }
 }
 
@@ -69,7 +84,10 @@ pub struct OutSink<'r, P: Print> {
 }
 
 impl<'r, P: Print> OutSink<'r, P> {
-    pub fn new(rt: &'r P) -> OutSink<'r, P> {
+    /// A sink that has not failed.
+    pub fn new(rt: &'r P) -> OutSink<'r, P>
+        ensures { result.faults ≡ 0 }
+    {
         OutSink { rt, faults: 0 }
     }
 }

@@ -4,14 +4,11 @@
 mod edge;
 
 use edge::{FileShelf, OutSink};
-use faasm_top::answer;
+use faasm_top::{Status, answer};
 use std::env::Env;
 use std::io::ErrorKind;
 use std::process::ExitCode;
 use std::{env, io};
-
-/// The status where there is no memory for the words.
-const WANT: u8 = 6;
 
 /// The words without the program's own name.
 fn words(rt: &(impl Env + AllocGlobal)) -> io::Result<Vec<String>> {
@@ -22,7 +19,9 @@ fn words(rt: &(impl Env + AllocGlobal)) -> io::Result<Vec<String>> {
 fn main(rt: HostRuntime) -> ExitCode {
     let words = match words(&rt) {
         Ok(words) => words,
-        Err(e) if e.kind() == ErrorKind::OutOfMemory => return ExitCode::from(WANT),
+        Err(e) if e.kind() == ErrorKind::OutOfMemory => {
+            return ExitCode::from(Status::Want.code());
+        }
         // A word that is not UTF-8 is no command, as no words are.
         Err(_) => Vec::new(rt.alloc()),
     };

@@ -14,7 +14,7 @@ use Rattle.faasm_top.specs.declared.report.Report.{Report}
 use Rattle.faasm_top.specs.declared.words.Command.{Command}
 use Rattle.faasm_top.specs.declared.words.Command.TheVariants.{Call}
 use Rattle.faasm_top.specs.Commands.{command_of, file_word}
-use Rattle.faasm_top.specs.Answers.{MODULE, code_of, IsDue, done, not_built, no_minimal, read_fault}
+use Rattle.faasm_top.specs.Answers.{module_limit, code_of, IsDue, done, not_built, no_minimal, read_fault}
 
 -- what holds of a status and a line holds of a report that has them
 pub made : {E : Type 0} (P : ℕ → List ℕ → Type 0) (status : ℕ) (line : List ℕ) (r : Result Report E) → IfOk r (λ x. code_of x.status ≡ status) → IfOk r (λ x. string_bytes x.line ≡ line) → P status line
@@ -29,7 +29,7 @@ DueToCall file told before after status line = (words : List (List ℕ)) (input 
 pub fault_due : (file : List ℕ) (told : Option Files) (before after : ℕ) → Rose before after → DueToCall file told before after 4 report.read_fault
 fault_due file told before after rose words input fuel is = read_fault refl refl (record { command = call file input fuel; is_command = is; rose = rose })
 
-pub long_due : (file : List ℕ) (told : Option Files) (before after : ℕ) (bytes : List ℕ) → IsFile told file bytes → MODULE < length bytes → DueToCall file told before after 3 report.not_built
+pub long_due : (file : List ℕ) (told : Option Files) (before after : ℕ) (bytes : List ℕ) → IsFile told file bytes → module_limit < length bytes → DueToCall file told before after 3 report.not_built
 long_due file told before after bytes holds long words input fuel is =
     not_built refl refl (no_minimal bytes input fuel (record { file = file; is_call = is; is_file = holds }) (λ few. absurd (omega arith)))
 
@@ -37,7 +37,7 @@ pub other_due : (file : List ℕ) (told : Option Files) (before after : ℕ) (by
 other_due file told before after bytes holds other words input fuel is =
     not_built refl refl (no_minimal bytes input fuel (record { file = file; is_call = is; is_file = holds }) (λ few. other))
 
-pub done_due : (file : List ℕ) (told : Option Files) (before after : ℕ) (bytes : List ℕ) (constant code : ℤ) (used : ℕ) → IsFile told file bytes → length bytes ≤ MODULE → IsMinimal constant bytes
+pub done_due : (file : List ℕ) (told : Option Files) (before after : ℕ) (bytes : List ℕ) (constant code : ℤ) (used : ℕ) → IsFile told file bytes → length bytes ≤ module_limit → IsMinimal constant bytes
     → ((input : List ℕ) (fuel : ℕ) → 1 ≤ fuel → Runs (minimal_module constant) input fuel (outcome.Done code) [] used)
     → DueToCall file told before after 0 (report.call_line (outcome.Done code) [] used)
 done_due file told before after bytes constant code used holds few minimal runs words input fuel is =

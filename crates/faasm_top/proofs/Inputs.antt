@@ -5,6 +5,10 @@ use Rattle.hex.specs.Hex.{hex_digit_value, digit_or_error, value_at, pair_value,
 use Rattle.hex.proofs.HexLemmas.{decode_of-even, decode_of-ok}
 use Rattle.hex.specs.declared.error.FromHexError.{FromHexError}
 use Rattle.hex.specs.declared.error.FromHexError.TheVariants.{OutOfMemory}
+use Rattle.std.specs.Prelude.{IsErrOf}
+use Rattle.std.specs.Result.{IsErrAnd}
+use Rattle.faasm_top.specs.declared.words.WordsFault.{WordsFault}
+use Rattle.faasm_top.specs.declared.words.WordsFault.TheVariants.{Usage, Want}
 use Rattle.faaslet_meaning.specs.Productions.{NoSpelling}
 use Rattle.faaslet_meaning.specs.Words.{IsHexDigit, IsHex, IsInput}
 
@@ -77,3 +81,8 @@ input_long word long = record { none = λ bytes p. absurd (omega (arith, hex_len
 pub input_none : (word : List ℕ) (e : FromHexError) → (e ≡ OutOfMemory → ⊥) → (e ≡ OutOfMemory) ⊎ (decode_of word ≡ Err e) → NoSpelling IsInput word
 input_none word e had (inl out) = absurd (had out)
 input_none word e had (inr h) = record { none = λ bytes p. let again = input_again bytes word p in absurd cc }
+
+-- a fault that is told as bad usage was no want of memory
+pub refused : {T : Type 0} (r : Result T WordsFault) (e : FromHexError) → IsErrAnd r (λ f. (e ≡ OutOfMemory → f ≡ Want) × ((e ≡ OutOfMemory → ⊥) → f ≡ Usage)) → IsErrOf r Usage → e ≡ OutOfMemory → ⊥
+refused (Ok x) e gives is out = absurd gives
+refused (Err f) e gives is out = let want = gives.0 out in absurd cc

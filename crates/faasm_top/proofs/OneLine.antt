@@ -12,7 +12,7 @@ use Rattle.faaslet_meaning.specs.Words.{call}
 use Rattle.faaslet_meaning.proofs.OneCommand.{one_command}
 use Rattle.faaslet_meaning.proofs.OneRun.{one_outcome}
 use Rattle.wasm_decode.proofs.MinimalLaws.{one_minimal}
-use Rattle.faasm_top.specs.Answers.{MODULE, Calls, IsDone, IsNotBuilt, no_command, no_minimal, IsDue, done, not_built, read_fault}
+use Rattle.faasm_top.specs.Answers.{module_limit, Calls, IsDone, IsNotBuilt, no_command, no_minimal, IsDue, done, not_built, read_fault}
 
 same_call : (f g i j : List ℕ) (m n : ℕ) → call f i m ≡ call g j n → (f ≡ g) × (i ≡ j) × (m ≡ n)
 same_call f g i j m n e = (cc, cc, cc)
@@ -44,7 +44,7 @@ not_both : (words : List (List ℕ)) (files : Files) (l : List ℕ) → IsDone w
 not_both words files l p (no_command none) = none.none (call p.calls.file p.input p.fuel) p.calls.is_call
 not_both words files l p (no_minimal bytes input fuel calls none) =
     let same = same_bytes words files p.bytes bytes p.input input p.fuel fuel p.calls calls in
-    (subst (λ t. length t ≤ MODULE → NoSpelling IsMinimal t) (sym same.0) none p.few).none p.constant p.is_minimal
+    (subst (λ t. length t ≤ module_limit → NoSpelling IsMinimal t) (sym same.0) none p.few).none p.constant p.is_minimal
 
 pub one_line : (words : List (List ℕ)) (files : Files) (before after s t : ℕ) (l m : List ℕ) → (Rose before after → ⊥) → IsDue words (Some files) before after s l → IsDue words (Some files) before after t m
     → (s ≡ t) × (l ≡ m)

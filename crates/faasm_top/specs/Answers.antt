@@ -22,8 +22,8 @@ code_of SinkFailed = 5
 code_of Want = 6
 
 -- the bytes of a module file
-abbrev pub MODULE : ℕ
-MODULE = 4194304
+abbrev pub module_limit : ℕ
+module_limit = 4194304
 
 -- the words are a call of this file, which holds these bytes, where that is told
 pub record Calls (words : List (List ℕ)) (told : Option Files) (bytes input : List ℕ) (fuel : ℕ) : Type 0 where
@@ -37,7 +37,7 @@ pub record IsDone (words : List (List ℕ)) (told : Option Files) (line : List �
   pub input : List ℕ
   pub fuel : ℕ
   pub calls : Calls words told bytes input fuel
-  pub few : length bytes ≤ MODULE
+  pub few : length bytes ≤ module_limit
   pub constant : ℤ
   pub is_minimal : IsMinimal constant bytes
   pub code : ℤ
@@ -46,10 +46,10 @@ pub record IsDone (words : List (List ℕ)) (told : Option Files) (line : List �
   pub runs : Runs (minimal_module constant) input fuel (outcome.Done code) output used
   pub is_line : line ≡ report.call_line (outcome.Done code) output used
 
--- status 3: the words are no command, or the file holds no minimal module
+-- status 3: the words are no command, or the file is longer than a module may be or holds no minimal module
 pub data IsNotBuilt (words : List (List ℕ)) (told : Option Files) : Type 0 where
   no_command : NoSpelling CommandOf words → IsNotBuilt words told
-  no_minimal : (bytes input : List ℕ) (fuel : ℕ) → Calls words told bytes input fuel → (length bytes ≤ MODULE → NoSpelling IsMinimal bytes) → IsNotBuilt words told
+  no_minimal : (bytes input : List ℕ) (fuel : ℕ) → Calls words told bytes input fuel → (length bytes ≤ module_limit → NoSpelling IsMinimal bytes) → IsNotBuilt words told
 
 -- status 4: the words are a command, and the shelf's count rose
 pub record IsReadFault (words : List (List ℕ)) (before after : ℕ) : Type 0 where

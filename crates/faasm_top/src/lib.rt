@@ -6,6 +6,7 @@ mod report;
 mod words;
 
 pub use commands::{answer, one_line};
+pub use report::Status;
 pub use words::{Command, WordsFault, read_words};
 
 #[cfg(test)]

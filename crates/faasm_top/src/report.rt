@@ -11,10 +11,15 @@ use std::alloc::{AllocError, Global};
 /// How the program ends.
 #[derive(Clone, Copy, Debug, PartialEq, Eq)]
 pub enum Status {
+    /// The call came to its end.
     Done = 0,
+    /// What the words ask for isn't built yet.
     Refused = 3,
+    /// A file can't be read.
     ShelfFailed = 4,
+    /// The output can't be written.
     SinkFailed = 5,
+    /// There is no memory.
     Want = 6,
 }
 
@@ -37,7 +42,8 @@ pub struct Report {
 /// A run to its end, without output.
 pub fn done(alloc: Global, code: i32, used: u64) -> Result<Report, AllocError>
     ensures status { IfOk result (λ r. code_of r.status ≡ 0) }
-    ensures line { IfOk result (λ r. string_bytes r.line ≡ report.call_line (outcome.Done code) [] used) }
+    ensures line { IfOk result (λ r.
+        string_bytes r.line ≡ report.call_line (outcome.Done code) [] used) }
 {
     Ok(Report {
         status: Status::Done,

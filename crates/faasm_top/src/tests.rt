@@ -10,12 +10,14 @@ const ANSWER: [u8; 37] = [
     0x04, 0x00, 0x41, 0x2A, 0x0B,
 ];
 
-/// The places in it of each section, and of the constant's two bytes.
+/// The places in it of three sections.
 const TYPES: usize = 8;
 
 const FUNCTIONS: usize = 15;
 
 const CODE: usize = 29;
+
+const CALL: [&str; 4] = ["call", "m.wasm", "", "10"];
 
 const DONE: &str = "call done 42 used 1 output \n";
 
@@ -55,7 +57,7 @@ fn replaced(alloc: Global, start: usize, end: usize, other: &[u8]) -> Result<Vec
 #[test]
 fn calls_of_modules(rt: HostRuntime) -> Result<(), Fail> {
     let alloc = rt.alloc();
-    let rows: [(&str, usize, usize, &[u8], &str); 12] = [
+    let rows: [(&str, usize, usize, &[u8], &str); 13] = [
         ("as it is", 0, 0, &[], DONE),
         (
             "42 in three bytes",
@@ -78,6 +80,13 @@ fn calls_of_modules(rt: HostRuntime) -> Result<(), Fail> {
             TYPES + 1,
             TYPES + 2,
             &[0x85, 0x80, 0x80, 0x80, 0x00],
+            DONE,
+        ),
+        (
+            "two sizes and a count in two bytes",
+            CODE,
+            37,
+            &[0x0A, 0x87, 0x00, 0x01, 0x84, 0x00, 0x00, 0x41, 0x2A, 0x0B],
             DONE,
         ),
         (
@@ -139,20 +148,25 @@ fn calls_of_modules(rt: HostRuntime) -> Result<(), Fail> {
     ];
     for (name, start, end, other, line) in rows {
         let file = replaced(alloc, start, end, other)?;
-        let (status, written) = answered(alloc, &["call", "m.wasm", "", "10"], &file, 100)?;
+        let (status, written) = answered(alloc, &CALL, &file, 100)?;
         assert_eq!(rt; written.as_slice(), line.as_bytes(), "{name}");
         assert_eq!(rt; status, if line == NOT_BUILT { 3 } else { 0 }, "{name}");
     }
+    Ok(())
+}
+
+#[test]
+fn fronts_and_long_files(rt: HostRuntime) -> Result<(), Fail> {
+    let alloc = rt.alloc();
     for len in 0..ANSWER.len() {
-        let (status, written) = answered(
-            alloc,
-            &["call", "m.wasm", "", "10"],
-            &ANSWER[..len],
-            100,
-        )?;
+        let (status, written) = answered(alloc, &CALL, &ANSWER[..len], 100)?;
         assert_eq!(rt; written.as_slice(), NOT_BUILT.as_bytes(), "{len} bytes");
         assert_eq!(rt; status, 3, "{len} bytes");
     }
+    let long = vec![in alloc; 0; 4_194_305]?;
+    let (status, written) = answered(alloc, &CALL, &long, 100)?;
+    assert_eq!(rt; written.as_slice(), NOT_BUILT.as_bytes());
+    assert_eq!(rt; status, 3);
     Ok(())
 }
 

@@ -13,9 +13,10 @@ use std::alloc::{AllocError, Global};
 use thiserror::Error;
 
 /// A command with its values.
-#[derive(Debug, Drop)]
+#[derive(Debug, Drop, PartialEq)]
 pub enum Command<'w> {
-    /// One call of the module in a file, with an input of at most 65,536 bytes and fuel from 1 to 2^40.
+    /// One call of the module in a file, with an input of at most 65,536 bytes and fuel from 1 to
+    /// 2^40.
     Call {
         file: &'w str,
         input: Bytes,
@@ -41,7 +42,8 @@ impl From<AllocError> for WordsFault {
 }
 
 impl From<FromHexError> for WordsFault {
-    ghost from_gives = { λ e f. f ≡ fault.Usage → e ≢ hex_fault.OutOfMemory };
+    ghost from_gives = { λ e f. (e ≡ hex_fault.OutOfMemory → f ≡ fault.Want)
+        × (e ≢ hex_fault.OutOfMemory → f ≡ fault.Usage) };
 
     fn from(e: FromHexError) -> WordsFault {
         match e {
@@ -64,10 +66,7 @@ fn read_input(alloc: Global, word: &str) -> Result<Bytes, WordsFault>
     if word.len() > 2 * MOST_INPUT {
         return Err(WordsFault::Usage);
     }
-    match hex::decode(alloc, word) {
-        Ok(bytes) => Ok(Items::of(bytes)),
-        Err(e) => Err(WordsFault::from(e)),
-    }
+    Ok(Items::of(hex::decode(alloc, word)?))
 }
 
 /// The fuel that a word spells in decimal digits.
@@ -89,24 +88,21 @@ fn read_fuel(alloc: Global, word: &str) -> Result<u64, WordsFault>
     }
 }
 
-/// The command that four words are.
+/// The call of the three words behind `call`.
 fn read_call<'w>(
     alloc: Global,
     file: &'w str,
     input_word: &str,
     fuel_word: &str,
 ) -> Result<Command<'w>, WordsFault>
-    ensures found { IfOk result (λ c. CommandOf (command_of c) (codes "call" ∷ file.now ∷ input_word.now ∷ fuel_word.now ∷ [])) }
-    ensures usage { IsErrOf result WordsFault.Usage → NoSpelling CommandOf (codes "call" ∷ file.now ∷ input_word.now ∷ fuel_word.now ∷ []) }
+    ensures found { IfOk result (λ c. CommandOf (command_of c)
+        (codes "call" ∷ file.now ∷ input_word.now ∷ fuel_word.now ∷ [])) }
+    ensures usage { IsErrOf result WordsFault.Usage → NoSpelling CommandOf
+        (codes "call" ∷ file.now ∷ input_word.now ∷ fuel_word.now ∷ []) }
 {
-    let input = match read_input(alloc, input_word) {
-        Ok(input) => input,
-        Err(e) => return Err(e),
-    };
-    match read_fuel(alloc, fuel_word) {
-        Ok(fuel) => Ok(Command::Call { file, input, fuel }),
-        Err(e) => Err(e),
-    }
+    let input = read_input(alloc, input_word)?;
+    let fuel = read_fuel(alloc, fuel_word)?;
+    Ok(Command::Call { file, input, fuel })
 }
 
 /// The command that the words are, without the program's own name.

@@ -1,10 +1,10 @@
 -- The end of a field by its length, and by the bytes behind it.
-use Rattle.std.proofs.Common.{ℤ, Some, None, ◌≡◌, ℕ, ◌-◌, ◌≤◌, List, length, take, ap, ◌∙◌, arith}
+use Rattle.std.proofs.Common.{ℤ, Some, None, ◌≡◌, ℕ, ◌-◌, ◌≤◌, List, length, take, refl, ap, ◌∙◌, arith}
 use Rattle.std.proofs.lemmas.List.{take_at, length-append}
 use Rattle.faaslet_meaning.specs.Productions.{Front, Prefix, NoFront}
-use Rattle.faaslet_meaning.specs.Numbers.{IsU32, IsSigned}
+use Rattle.faaslet_meaning.specs.Numbers.{IsU32, IsS32}
 use Rattle.wasm_code.specs.Reading.{unsigned_at, signed_at}
-use Rattle.wasm_code.proofs.Readers.{none_is_none}
+use Rattle.wasm_code.proofs.Readers.{none_is_none, read_again, not_read}
 use Rattle.wasm_code.proofs.NumberReaders.{unsigned_reads, signed_reads}
 
 pub front_len : {A : Type 0} (P : A → List ℕ → Type 0) (bytes : List ℕ) (x : A) (rest : List ℕ) → Front P bytes x rest → length rest ≤ length bytes
@@ -19,22 +19,36 @@ front_text P bytes x rest f =
 pub prefix : {A : Type 0} (P : A → List ℕ → Type 0) (bytes : List ℕ) (x : A) (rest : List ℕ) → Front P bytes x rest → Prefix P bytes x (length bytes - length rest)
 prefix P bytes x rest f = record { within = omega arith; spells = front_text P bytes x rest f }
 
-pub u32_found : (bytes : List ℕ) (x : ℕ) (rest : List ℕ) → unsigned_at 32 bytes ≡ Some (x, rest) → Prefix IsU32 bytes x (length bytes - length rest)
-u32_found bytes x rest e = prefix IsU32 bytes x rest ((unsigned_reads 32).takes bytes x rest e)
+-- what was read of a u32 and of an s32, and what was not
+pub u32_front : (bytes : List ℕ) (x : ℕ) (rest : List ℕ) → unsigned_at 32 bytes ≡ Some (x, rest) → Front IsU32 bytes x rest
+u32_front bytes x rest e = (unsigned_reads 32).takes bytes x rest e
 
 pub u32_none : (bytes : List ℕ) → unsigned_at 32 bytes ≡ None → NoFront IsU32 bytes
 u32_none bytes e = none_is_none IsU32 (unsigned_at 32) bytes (unsigned_reads 32) e
 
-pub signed_found : (bits : ℕ) (bytes : List ℕ) (x : ℤ) (rest : List ℕ) → signed_at bits bytes ≡ Some (x, rest) → Prefix (IsSigned bits) bytes x (length bytes - length rest)
-signed_found bits bytes x rest e = prefix (IsSigned bits) bytes x rest ((signed_reads bits).takes bytes x rest e)
+pub s32_front : (bytes : List ℕ) (x : ℤ) (rest : List ℕ) → signed_at 32 bytes ≡ Some (x, rest) → Front IsS32 bytes x rest
+s32_front bytes x rest e = (signed_reads 32).takes bytes x rest e
 
-pub signed_none : (bits : ℕ) (bytes : List ℕ) → signed_at bits bytes ≡ None → NoFront (IsSigned bits) bytes
-signed_none bits bytes e = none_is_none (IsSigned bits) (signed_at bits) bytes (signed_reads bits) e
+pub s32_none : (bytes : List ℕ) → signed_at 32 bytes ≡ None → NoFront IsS32 bytes
+s32_none bytes e = none_is_none IsS32 (signed_at 32) bytes (signed_reads 32) e
 
-pub u32_len : (bytes : List ℕ) (x : ℕ) (rest : List ℕ) → unsigned_at 32 bytes ≡ Some (x, rest) → length rest ≤ length bytes
-u32_len bytes x rest e = front_len IsU32 bytes x rest ((unsigned_reads 32).takes bytes x rest e)
+pub ruleset u32_steps = (u32_front, u32_none)
 
-pub signed_len : (bits : ℕ) (bytes : List ℕ) (x : ℤ) (rest : List ℕ) → signed_at bits bytes ≡ Some (x, rest) → length rest ≤ length bytes
-signed_len bits bytes x rest e = front_len (IsSigned bits) bytes x rest ((signed_reads bits).takes bytes x rest e)
+pub ruleset s32_steps = (s32_front, s32_none)
 
-pub ruleset front_steps = (u32_found, u32_none, u32_len, signed_found, signed_none, signed_len)
+-- and back
+pub u32_read : (bytes : List ℕ) (x : ℕ) (rest : List ℕ) → Front IsU32 bytes x rest → unsigned_at 32 bytes ≡ Some (x, rest)
+u32_read bytes x rest f = read_again IsU32 (unsigned_at 32) bytes x rest (unsigned_reads 32) f
+
+pub u32_unread : (bytes : List ℕ) → NoFront IsU32 bytes → unsigned_at 32 bytes ≡ None
+u32_unread bytes none = not_read IsU32 (unsigned_at 32) bytes (unsigned_reads 32) none (unsigned_at 32 bytes) refl
+
+pub s32_read : (bytes : List ℕ) (x : ℤ) (rest : List ℕ) → Front IsS32 bytes x rest → signed_at 32 bytes ≡ Some (x, rest)
+s32_read bytes x rest f = read_again IsS32 (signed_at 32) bytes x rest (signed_reads 32) f
+
+pub s32_unread : (bytes : List ℕ) → NoFront IsS32 bytes → signed_at 32 bytes ≡ None
+s32_unread bytes none = not_read IsS32 (signed_at 32) bytes (signed_reads 32) none (signed_at 32 bytes) refl
+
+pub ruleset u32_again = (u32_read, u32_unread)
+
+pub ruleset s32_again = (s32_read, s32_unread)

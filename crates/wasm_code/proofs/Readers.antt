@@ -13,6 +13,14 @@ pub record Reads {A : Type 0} (P : A → List ℕ → Type 0) (at : List ℕ →
 pub none_is_none : {A : Type 0} (P : A → List ℕ → Type 0) (at : List ℕ → Read A) (bytes : List ℕ) → Reads P at → at bytes ≡ None → NoFront P bytes
 none_is_none P at bytes reads e = record { none = λ x a rest parts p. let h = reads.again x a rest p in let same : at bytes ≡ at (a ++ rest) = ap at parts in cc }
 
+-- and the other way round
+pub read_again : {A : Type 0} (P : A → List ℕ → Type 0) (at : List ℕ → Read A) (bytes : List ℕ) (x : A) (rest : List ℕ) → Reads P at → Front P bytes x rest → at bytes ≡ Some (x, rest)
+read_again P at bytes x rest reads f = ap at f.parts ∙ reads.again x f.text rest f.spells
+
+pub not_read : {A : Type 0} (P : A → List ℕ → Type 0) (at : List ℕ → Read A) (bytes : List ℕ) → Reads P at → NoFront P bytes → (r : Read A) → at bytes ≡ r → r ≡ None
+not_read P at bytes reads none None e = refl
+not_read P at bytes reads none (Some (x, rest)) e = let f = reads.takes bytes x rest e in absurd (none.none x f.text rest f.parts f.spells)
+
 pub some_is : {A : Type 0} (p q : A × List ℕ) → (let f : Read A = Some p in let g : Read A = Some q in f ≡ g) → p ≡ q
 some_is p q e = cc
 

@@ -1,7 +1,7 @@
 //! Numbers in LEB128. W3C WebAssembly Core Specification 1.0, section 5.2.2.
 
 ghost use Rattle.std.specs.Prelude.{◌≡◌, ℕ, ◌^◌, ◌<◌, ◌≤◌, ◌∷◌, [], IfOk, OnErr, MatchResult, IsTrue, ◌↔◌};
-ghost use Rattle.faaslet_meaning.specs.Productions.{Prefix, NoFront, IsDetermined};
+ghost use Rattle.faaslet_meaning.specs.Productions.{Front, Prefix, NoFront, IsDetermined};
 ghost use Rattle.faaslet_meaning.specs.Numbers.{IsUnsigned, IsSigned, IsU32, IsS32};
 ghost use Rattle.wasm_code.specs.Reading.{IsWithin, Gives};
 ghost use Rattle.wasm_code.specs.Reading as reading;
@@ -88,23 +88,27 @@ fn signed_at(bytes: &[u8], bits: u32) -> Result<(i64, &[u8]), Malformed>
 }
 
 /// The u32 at the front, and the bytes behind it.
+#[tactic(auto, using(crate::proofs::Ends::u32_steps))]
 pub fn u32_at(bytes: &[u8]) -> Result<(u32, &[u8]), Malformed>
-    ensures { Gives (λ x. (x.0, x.1.now)) result (reading.unsigned_at 32 bytes.now) }
+    ensures found { IfOk result (λ x. Front IsU32 bytes.now x.0 x.1.now) }
+    ensures none { OnErr result (NoFront IsU32 bytes.now) }
 {
     let (n, rest) = unsigned_at(bytes, 32)?;
     Ok((n as u32, rest))
 }
 
 /// The s32 at the front, and the bytes behind it.
+#[tactic(auto, using(crate::proofs::Ends::s32_steps))]
 pub fn s32_at(bytes: &[u8]) -> Result<(i32, &[u8]), Malformed>
-    ensures { Gives (λ x. (x.0, x.1.now)) result (reading.signed_at 32 bytes.now) }
+    ensures found { IfOk result (λ x. Front IsS32 bytes.now x.0 x.1.now) }
+    ensures none { OnErr result (NoFront IsS32 bytes.now) }
 {
     let (z, rest) = signed_at(bytes, 32)?;
     Ok((z as i32, rest))
 }
 
 /// The u32 at the front, and how many bytes spell it.
-#[tactic(auto, using(crate::proofs::Ends::front_steps))]
+#[tactic(auto, using(crate::proofs::Ends::prefix, crate::proofs::Ends::front_len))]
 pub fn read_u32(bytes: &[u8]) -> Result<(u32, usize), Malformed>
     ensures found { IfOk result (λ x. Prefix IsU32 bytes.now x.0 x.1) }
     ensures none { OnErr result (NoFront IsU32 bytes.now) }
@@ -114,7 +118,7 @@ pub fn read_u32(bytes: &[u8]) -> Result<(u32, usize), Malformed>
 }
 
 /// The s32 at the front, and how many bytes spell it.
-#[tactic(auto, using(crate::proofs::Ends::front_steps))]
+#[tactic(auto, using(crate::proofs::Ends::prefix, crate::proofs::Ends::front_len))]
 pub fn read_s32(bytes: &[u8]) -> Result<(i32, usize), Malformed>
     ensures found { IfOk result (λ x. Prefix IsS32 bytes.now x.0 x.1) }
     ensures none { OnErr result (NoFront IsS32 bytes.now) }
@@ -123,8 +127,8 @@ pub fn read_s32(bytes: &[u8]) -> Result<(i32, usize), Malformed>
     Ok((z, bytes.len() - rest.len()))
 }
 
-/// No spelling of a number begins another, and each spells one number. The body is empty: what counts is
-/// what it ensures.
+/// No spelling of a number begins another, and each spells one number. The body is empty: what counts
+/// is what it ensures.
 pub fn one_number()
     ensures unsigned { (bits : ℕ) → IsDetermined (IsUnsigned bits) }
     ensures signed { (bits : ℕ) → IsDetermined (IsSigned bits) }

@@ -84,5 +84,7 @@ minimal_again bytes n p =
 pub minimal_none : (bytes : List ℕ) → whole_module bytes ≡ None → NoSpelling IsMinimal bytes
 minimal_none bytes e = record { none = λ n p. let again = minimal_again bytes n p in cc }
 
+pub ruleset minimal = (minimal_found, minimal_none)
+
 pub one_minimal : (m n : ℤ) (bytes : List ℕ) → IsMinimal m bytes → IsMinimal n bytes → m ≡ n
 one_minimal m n bytes p q = let a = minimal_again bytes m p in let b = minimal_again bytes n q in cc

@@ -16,7 +16,8 @@ const HEADER: [u8; 8] = [0x00, 0x61, 0x73, 0x6D, 0x01, 0x00, 0x00, 0x00];
 
 /// The content of the section with this id, and the bytes behind the section.
 fn section_at(bytes: &[u8], id: u8) -> Result<(&[u8], &[u8]), Malformed>
-    ensures { Gives (λ x. (x.0.now, x.1.now)) result ((reading.byte id ⨟ reading.blob_at) bytes.now) }
+    ensures { Gives (λ x. (x.0.now, x.1.now)) result
+        ((reading.byte id ⨟ reading.blob_at) bytes.now) }
 {
     blob_at(pass_byte(bytes, id)?)
 }
@@ -44,7 +45,8 @@ fn pass_functions(content: &[u8]) -> Result<&[u8], Malformed>
 
 /// The name `main`.
 fn pass_main_name(bytes: &[u8]) -> Result<&[u8], Malformed>
-    ensures { Gives (λ rest. (tt, rest.now)) result (reading.sized (reading.text (codes "main")) bytes.now) }
+    ensures { Gives (λ rest. (tt, rest.now)) result
+        (reading.sized (reading.text (codes "main")) bytes.now) }
 {
     let (name, rest) = blob_at(bytes)?;
     pass_end(pass_text(name, MAIN)?)?;
@@ -63,7 +65,7 @@ fn pass_exports(content: &[u8]) -> Result<&[u8], Malformed>
 }
 
 /// The constant of a body without locals, and the bytes behind the body.
-#[tactic(auto, unfolding(crate::specs::Reading::entry))]
+#[tactic(auto, unfolding(crate::specs::Reading::entry), using(wasm_code::proofs::Ends::s32_again))]
 fn entry_at(bytes: &[u8]) -> Result<(i32, &[u8]), Malformed>
     ensures { Gives (λ x. (x.0, x.1.now)) result (reading.entry bytes.now) }
 {
@@ -97,7 +99,8 @@ fn pass_type_section(bytes: &[u8]) -> Result<&[u8], Malformed>
 
 /// The bytes behind the section of functions.
 fn pass_function_section(bytes: &[u8]) -> Result<&[u8], Malformed>
-    ensures { Gives (λ rest. (tt, rest.now)) result (reading.section 3 reading.functions bytes.now) }
+    ensures { Gives (λ rest. (tt, rest.now)) result
+        (reading.section 3 reading.functions bytes.now) }
 {
     let (content, rest) = section_at(bytes, 3)?;
     pass_end(pass_functions(content)?)?;
@@ -146,15 +149,12 @@ fn module_at(bytes: &[u8]) -> Result<i32, Malformed>
 }
 
 /// The constant that the `main` of a minimal module returns, where the bytes spell one.
-#[tactic(auto, using(crate::proofs::MinimalLaws::minimal_found, crate::proofs::MinimalLaws::minimal_none))]
+#[tactic(auto, using(crate::proofs::MinimalLaws::minimal))]
 pub fn read_minimal(bytes: &[u8]) -> Option<i32>
     ensures found { IfSome result (λ n. IsMinimal n bytes.now) }
     ensures none { IfNone result (NoSpelling IsMinimal bytes.now) }
 {
-    match module_at(bytes) {
-        Ok(constant) => Some(constant),
-        Err(Malformed) => None,
-    }
+    module_at(bytes).ok()
 }
 
 /// Bytes spell one minimal module at most. The body is empty: what counts is what it ensures.

@@ -23,18 +23,11 @@ pub fn pass_byte(bytes: &[u8], byte: u8) -> Result<&[u8], Malformed>
 pub fn pass_text<'a>(bytes: &'a [u8], text: &[u8]) -> Result<&'a [u8], Malformed>
     ensures { Gives (λ rest. (tt, rest.now)) result (reading.text text.now bytes.now) }
 {
-    if bytes.len() < text.len() {
-        return Err(Malformed);
-    }
-    let (front, rest) = bytes.split_at(text.len());
-    if front != text {
-        return Err(Malformed);
-    }
-    Ok(rest)
+    bytes.strip_prefix(text).ok_or(Malformed)
 }
 
 /// The bytes behind this number.
-#[tactic(auto, unfolding(crate::specs::Reading::number))]
+#[tactic(auto, unfolding(crate::specs::Reading::number), using(wasm_code::proofs::Ends::u32_again))]
 pub fn pass_number(bytes: &[u8], number: u32) -> Result<&[u8], Malformed>
     ensures { Gives (λ rest. (tt, rest.now)) result (reading.number number bytes.now) }
 {
@@ -46,16 +39,12 @@ pub fn pass_number(bytes: &[u8], number: u32) -> Result<&[u8], Malformed>
 }
 
 /// As many bytes as the size at the front says, and the bytes behind them.
-#[tactic(auto, unfolding(crate::specs::Reading::blob_at))]
+#[tactic(auto, unfolding(crate::specs::Reading::blob_at), using(wasm_code::proofs::Ends::u32_again))]
 pub fn blob_at(bytes: &[u8]) -> Result<(&[u8], &[u8]), Malformed>
     ensures { Gives (λ x. (x.0.now, x.1.now)) result (reading.blob_at bytes.now) }
 {
     let (size, rest) = u32_at(bytes)?;
-    let size = size as usize;
-    if rest.len() < size {
-        return Err(Malformed);
-    }
-    Ok(rest.split_at(size))
+    rest.split_at_checked(size as usize).ok_or(Malformed)
 }
 
 /// The end of the bytes.
