@@ -1,4 +1,4 @@
--- What was written, where that is told.
+-- What was written, where that is told. This project's own.
 use Rattle.std.specs.Prelude.{◌≡◌, ◌<◌, ℕ, List, ◌++◌, Option, length, option_map, take}
 
 -- these bytes more were written

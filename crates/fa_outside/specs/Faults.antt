@@ -1,4 +1,4 @@
--- How often a shelf or a sink has failed. A body that reports a fault where none was counted is refused.
+-- How often a shelf or a sink has failed. This project's own.
 use Rattle.std.specs.Prelude.{◌≡◌, ℕ, ◌-◌, ◌^◌, ◌<◌, ◌⊎◌}
 
 -- A count rose in a call: it is greater than before, or it stands at the end of its type.

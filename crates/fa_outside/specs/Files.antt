@@ -1,4 +1,4 @@
--- Files by name.
+-- Files by name. This project's own.
 use Rattle.std.specs.Prelude.{◌≡◌, ℕ, List, Option, Some, None, IfSome, IsSomeAnd, bytes_eq, find, option_map}
 
 -- A finite map from names to contents, as its pairs. Of two pairs with one name the first counts.

@@ -1,4 +1,4 @@
--- A shelf in memory.
+-- A shelf in memory. This project's own.
 use Rattle.std.specs.Prelude.{ℕ, ◌+◌, ◌-◌, ◌^◌, min, List, [], Option, Some, None, String, Vec, map, drop, option_map, slice_get, unwrap_or}
 use Rattle.std.specs.String.{string_bytes}
 use Rattle.std.specs.declared.alloc.Global.{Global}

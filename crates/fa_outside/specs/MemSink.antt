@@ -1,4 +1,4 @@
--- A sink in memory.
+-- A sink in memory. This project's own.
 use Rattle.std.specs.Prelude.{ℕ, ◌+◌, ◌-◌, ◌^◌, min, List}
 
 -- what it holds, how many bytes more it takes, and how often it has failed

@@ -2,7 +2,7 @@ use super::*;
 use std::test::Fail;
 
 #[test]
-fn reads_and_writes(rt: HostRuntime) -> Result<(), Fail> {
+fn reads_and_writes_in_pieces(rt: HostRuntime) -> Result<(), Fail> {
     let alloc = rt.alloc();
     let long = vec![in alloc; 7; 10_000]?;
     let mut files = Vec::new(alloc);

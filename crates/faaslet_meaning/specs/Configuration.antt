@@ -1,4 +1,5 @@
 -- What a run is between two steps. W3C WebAssembly Core Specification 1.0, section 4.2, Runtime Structure.
+-- The fuel and `Next` are this project's own.
 -- PROVISIONAL: a body is kept flat, since nothing nests yet, and there are no locals, labels or frames below.
 use Rattle.std.specs.Prelude.{ℕ, List}
 use Rattle.faaslet_meaning.specs.declared.instr.Instr.{Instr}

@@ -29,6 +29,8 @@ abbrev pub IsMany : {A : Type 0} → (A → List ℕ → Type 0) → List A → 
 IsMany P [] = Nothing
 IsMany P (x ∷ xs) = P x ⨾ IsMany P xs
 
+-- ---- What readers say of a production. This project's own.
+
 -- the bytes begin with a spelling of x, of so many bytes
 pub record Prefix {A : Type 0} (P : A → List ℕ → Type 0) (bytes : List ℕ) (x : A) (len : ℕ) : Type 0 where
   pub within : len ≤ length bytes

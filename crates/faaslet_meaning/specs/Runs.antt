@@ -1,7 +1,7 @@
 -- Runs of a call. This project's own, over the rules of `Step`.
--- PROVISIONAL: the module has no imports, start function, `init`, memory, table, globals or segments, and its
--- `main` has type [] to [i32] and no locals. So there is nothing to instantiate, no call is broken, and nothing is
--- read, written or asked.
+-- PROVISIONAL: this is right only for a module that has no imports, start function, `init`, memory, table, globals or
+-- segments, and whose `main` has type [] to [i32] and no locals. There is nothing to instantiate, no call is broken,
+-- and nothing is read, written or asked.
 use Rattle.std.specs.Prelude.{◌≡◌, ℕ, ◌+◌, List, [], Option, Some, Bool, true, false, ◌&&◌, bytes_eq, codes, find, option_map, option_and_then, slice_get}
 use Rattle.faaslet_meaning.specs.declared.instr.Instr.{Instr}
 use Rattle.faaslet_meaning.specs.declared.module.ExportKind.{ExportKind}

@@ -17,16 +17,24 @@ IsHex [] [] = Unit {0}
 IsHex (b ∷ bytes) (h ∷ l ∷ word) = ((high : ℕ) × (low : ℕ) × IsHexDigit high h × IsHexDigit low l × (b ≡ 16 * high + low)) × IsHex bytes word
 IsHex _ _ = ⊥
 
--- an input of at most 65,536 bytes
+-- the bytes of an input
+abbrev pub input_limit : ℕ
+input_limit = 65536
+
+-- the most fuel, 2^40
+abbrev pub fuel_limit : ℕ
+fuel_limit = 1099511627776
+
+-- an input in hexadecimal digits
 pub record IsInput (input word : List ℕ) : Type 0 where
   pub spells : IsHex input word
-  pub few : length input ≤ 65536
+  pub few : length input ≤ input_limit
 
--- a number from 1 to 2^40, in decimal digits without a leading zero
+-- a number in decimal digits, without a sign or a leading zero
 pub record IsFuel (fuel : ℕ) (word : List ℕ) : Type 0 where
   pub spells : word ≡ decimal fuel
   pub some : 1 ≤ fuel
-  pub most : fuel ≤ 1099511627776
+  pub most : fuel ≤ fuel_limit
 
 -- `call FILE INPUTHEX FUEL`
 pub record IsCall (file input : List ℕ) (fuel : ℕ) (words : List (List ℕ)) : Type 0 where

@@ -1,4 +1,4 @@
--- What is due to the words and the files: a line, and the status that goes with it.
+-- What is due to the words and the files: a line, and the status that goes with it. This project's own.
 -- PROVISIONAL: of the commands there is `call`, and of the modules those that are minimal.
 use Rattle.std.specs.Prelude.{◌≡◌, ℕ, ℤ, ◌≤◌, List, Option, length}
 use Rattle.fa_outside.specs.Appended.{Appends, AppendsPart}

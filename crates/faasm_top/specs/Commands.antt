@@ -1,4 +1,4 @@
--- Words and commands of the program as contracts see them.
+-- Words and commands of the program as contracts see them. This project's own.
 use Rattle.std.specs.Prelude.{ℕ, List, String, map}
 use Rattle.std.specs.String.{string_bytes}
 use Rattle.std.specs.declared.alloc.Global.{Global}

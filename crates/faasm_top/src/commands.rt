@@ -1,11 +1,12 @@
 //! What the program does.
 
-ghost use Rattle.std.specs.Prelude.{◌≡◌, ℕ, ◌<◌, ◌≤◌, List, [], Some, IsSome, IfOk, false};
+ghost use Rattle.std.specs.Prelude.{◌≡◌, ℕ, ◌<◌, ◌≤◌, ◌≢◌, ◌⊎◌, List, [], Some, IsSome, IsTrue, IfOk, false};
 ghost use Rattle.std.specs.String.{string_bytes};
 ghost use Rattle.fa_outside.specs.Faults.{Rose};
 ghost use Rattle.fa_outside.specs.Files.{Files};
 ghost use Rattle.faaslet_meaning.specs.Productions.{NoSpelling};
 ghost use Rattle.faaslet_meaning.specs.Words.{call, CommandOf};
+ghost use Rattle.faaslet_meaning.specs.Words as meaning;
 ghost use Rattle.faasm_top.specs.Answers.{code_of, IsDue, WritesWhole, WritesPart};
 ghost use Rattle.faasm_top.specs.Commands.{texts, file_word};
 
@@ -30,6 +31,7 @@ fn answer_call<F: Shelf>(alloc: Global, shelf: &mut F, file: &str) -> Result<Rep
     ensures closed { IfOk result (λ r. code_of r.status ≡ 4 → F.is_open shelf.new ≡ false) }
     ensures ended { IfOk result (λ r. code_of r.status ≡ 0
         → IsSome (F.told shelf.old) → F.rest shelf.new ≡ []) }
+    ensures left_open { IfOk result (λ r. code_of r.status ≢ 4 → IsTrue (F.is_open shelf.new)) }
     ensures told { F.told shelf.new ≡ F.told shelf.old }
     ensures counted { F.faults shelf.old ≤ F.faults shelf.new }
 {
@@ -67,6 +69,8 @@ fn answer_words<F: Shelf>(
     ensures closed { IfOk result (λ r. code_of r.status ≡ 4 → F.is_open shelf.new ≡ false) }
     ensures ended { IfOk result (λ r. code_of r.status ≡ 0
         → IsSome (F.told shelf.old) → F.rest shelf.new ≡ []) }
+    ensures left_open { IfOk result (λ r. (c : meaning.Command) → CommandOf c (texts words.now)
+        → code_of r.status ≢ 4 → IsTrue (F.is_open shelf.new)) }
     ensures told { F.told shelf.new ≡ F.told shelf.old }
     ensures counted { F.faults shelf.old ≤ F.faults shelf.new }
 {
@@ -101,6 +105,8 @@ pub fn answer<F: Shelf, O: Sink>(alloc: Global, words: &[String], shelf: &mut F,
     ensures untouched { NoSpelling CommandOf (texts words.now) → shelf.new ≡ shelf.old }
     ensures closed { result ≡ 4 → F.is_open shelf.new ≡ false }
     ensures ended { result ≡ 0 → IsSome (F.told shelf.old) → F.rest shelf.new ≡ [] }
+    ensures left_open { (c : meaning.Command) → CommandOf c (texts words.now)
+        → (result ≡ 0) ⊎ (result ≡ 3) → IsTrue (F.is_open shelf.new) }
     ensures told { F.told shelf.new ≡ F.told shelf.old }
     ensures shelf_counted { F.faults shelf.old ≤ F.faults shelf.new }
     ensures out_counted { O.faults out.old ≤ O.faults out.new }

@@ -21,6 +21,97 @@ const DONE: &str = "call done 42 used 1 output \n";
 
 const NOT_BUILT: &str = "not built\n";
 
+/// Other bytes in the place of those from a start to an end, and the line that is due to them.
+const ROWS: [(&str, usize, usize, &[u8], &str); 13] = [
+    ("as it is", 0, 0, &[], DONE),
+    (
+        "42 in three bytes",
+        CODE,
+        37,
+        &[0x0A, 0x08, 0x01, 0x06, 0x00, 0x41, 0xAA, 0x80, 0x00, 0x0B],
+        DONE,
+    ),
+    (
+        "42 in five bytes",
+        CODE,
+        37,
+        &[
+            0x0A, 0x0A, 0x01, 0x08, 0x00, 0x41, 0xAA, 0x80, 0x80, 0x80, 0x00, 0x0B,
+        ],
+        DONE,
+    ),
+    (
+        "a size in five bytes",
+        TYPES + 1,
+        TYPES + 2,
+        &[0x85, 0x80, 0x80, 0x80, 0x00],
+        DONE,
+    ),
+    (
+        "two sizes and a count in two bytes",
+        CODE,
+        37,
+        &[0x0A, 0x87, 0x00, 0x01, 0x84, 0x00, 0x00, 0x41, 0x2A, 0x0B],
+        DONE,
+    ),
+    (
+        "a count in two bytes",
+        FUNCTIONS + 1,
+        FUNCTIONS + 3,
+        &[0x03, 0x81, 0x00],
+        DONE,
+    ),
+    (
+        "the smallest",
+        CODE,
+        37,
+        &[
+            0x0A, 0x0A, 0x01, 0x08, 0x00, 0x41, 0x80, 0x80, 0x80, 0x80, 0x78, 0x0B,
+        ],
+        "call done -2147483648 used 1 output \n",
+    ),
+    (
+        "unused bits that are no sign",
+        CODE,
+        37,
+        &[
+            0x0A, 0x0A, 0x01, 0x08, 0x00, 0x41, 0x80, 0x80, 0x80, 0x80, 0x38, 0x0B,
+        ],
+        NOT_BUILT,
+    ),
+    (
+        "a sixth byte",
+        CODE,
+        37,
+        &[
+            0x0A, 0x0B, 0x01, 0x09, 0x00, 0x41, 0xAA, 0x80, 0x80, 0x80, 0x80, 0x00, 0x0B,
+        ],
+        NOT_BUILT,
+    ),
+    (
+        "a `nop` before it",
+        CODE,
+        37,
+        &[0x0A, 0x07, 0x01, 0x05, 0x00, 0x01, 0x41, 0x2A, 0x0B],
+        NOT_BUILT,
+    ),
+    (
+        "a size one too large",
+        TYPES + 1,
+        TYPES + 2,
+        &[0x06],
+        NOT_BUILT,
+    ),
+    (
+        "a custom section",
+        TYPES,
+        TYPES,
+        &[0x00, 0x01, 0x00],
+        NOT_BUILT,
+    ),
+    ("a byte behind it", 37, 37, &[0x00], NOT_BUILT),
+];
+
 /// What the words answer over one file, and what they write where there is so much room.
 fn answered(
     alloc: Global,
@@ -62,96 +153,7 @@ fn replaced(alloc: Global, start: usize, end: usize, other: &[u8]) -> Result<Vec
 #[test]
 fn calls_of_modules(rt: HostRuntime) -> Result<(), Fail> {
     let alloc = rt.alloc();
-    let rows: [(&str, usize, usize, &[u8], &str); 13] = [
-        ("as it is", 0, 0, &[], DONE),
-        (
-            "42 in three bytes",
-            CODE,
-            37,
-            &[0x0A, 0x08, 0x01, 0x06, 0x00, 0x41, 0xAA, 0x80, 0x00, 0x0B],
-            DONE,
-        ),
-        (
-            "42 in five bytes",
-            CODE,
-            37,
-            &[
-                0x0A, 0x0A, 0x01, 0x08, 0x00, 0x41, 0xAA, 0x80, 0x80, 0x80, 0x00, 0x0B,
-            ],
-            DONE,
-        ),
-        (
-            "a size in five bytes",
-            TYPES + 1,
-            TYPES + 2,
-            &[0x85, 0x80, 0x80, 0x80, 0x00],
-            DONE,
-        ),
-        (
-            "two sizes and a count in two bytes",
-            CODE,
-            37,
-            &[0x0A, 0x87, 0x00, 0x01, 0x84, 0x00, 0x00, 0x41, 0x2A, 0x0B],
-            DONE,
-        ),
-        (
-            "a count in two bytes",
-            FUNCTIONS + 1,
-            FUNCTIONS + 3,
-            &[0x03, 0x81, 0x00],
-            DONE,
-        ),
-        (
-            "the smallest",
-            CODE,
-            37,
-            &[
-                0x0A, 0x0A, 0x01, 0x08, 0x00, 0x41, 0x80, 0x80, 0x80, 0x80, 0x78, 0x0B,
-            ],
-            "call done -2147483648 used 1 output \n",
-        ),
-        (
-            "unused bits that are no sign",
-            CODE,
-            37,
-            &[
-                0x0A, 0x0A, 0x01, 0x08, 0x00, 0x41, 0x80, 0x80, 0x80, 0x80, 0x38, 0x0B,
-            ],
-            NOT_BUILT,
-        ),
-        (
-            "a sixth byte",
-            CODE,
-            37,
-            &[
-                0x0A, 0x0B, 0x01, 0x09, 0x00, 0x41, 0xAA, 0x80, 0x80, 0x80, 0x80, 0x00, 0x0B,
-            ],
-            NOT_BUILT,
-        ),
-        (
-            "a `nop` before it",
-            CODE,
-            37,
-            &[0x0A, 0x07, 0x01, 0x05, 0x00, 0x01, 0x41, 0x2A, 0x0B],
-            NOT_BUILT,
-        ),
-        (
-            "a size one too large",
-            TYPES + 1,
-            TYPES + 2,
-            &[0x06],
-            NOT_BUILT,
-        ),
-        (
-            "a custom section",
-            TYPES,
-            TYPES,
-            &[0x00, 0x01, 0x00],
-            NOT_BUILT,
-        ),
-        ("a byte behind it", 37, 37, &[0x00], NOT_BUILT),
-    ];
-    for (name, start, end, other, line) in rows {
+    for (name, start, end, other, line) in ROWS {
         let file = replaced(alloc, start, end, other)?;
         assert!(rt; answers(alloc, &file, line)?, "{name}");
     }
@@ -162,7 +164,7 @@ fn calls_of_modules(rt: HostRuntime) -> Result<(), Fail> {
 }
 
 #[test]
-fn a_long_file(rt: HostRuntime) -> Result<(), Fail> {
+fn a_long_file_is_not_built(rt: HostRuntime) -> Result<(), Fail> {
     let alloc = rt.alloc();
     let long = vec![in alloc; 0; 4_194_305]?;
     assert!(rt; answers(alloc, &long, NOT_BUILT)?);
@@ -170,7 +172,7 @@ fn a_long_file(rt: HostRuntime) -> Result<(), Fail> {
 }
 
 #[test]
-fn words_and_faults(rt: HostRuntime) -> Result<(), Fail> {
+fn words_give_line_and_status(rt: HostRuntime) -> Result<(), Fail> {
     let rows: [(&[&str], usize, u8, &str); 13] = [
         (&["call", "m.wasm", "0aFf", "1"], 100, 0, DONE),
         (&["call", "m.wasm", "", "1099511627776"], 100, 0, DONE),

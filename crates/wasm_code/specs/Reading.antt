@@ -1,5 +1,6 @@
 -- Reading from the front of a list of bytes: what was read and the bytes behind it, or nothing where the bytes
--- begin with no spelling.
+-- begin with no spelling. This project's own; that numbers are so read as the grammar spells them is proved in
+-- `proofs/NumberReaders`.
 use Rattle.std.specs.Prelude.{◌≡◌, ℕ, ℤ, pos, ◌+ℤ◌, ◌-ℤ◌, ◌*ℤ◌, ◌≤ℤ◌, ◌<ℤ◌, Result, Ok, Err, ◌+◌, ◌-◌, ◌*◌, ◌^◌, List, [], ◌∷◌, Option, Some, None, nat_lt, if◌then◌else◌}
 
 abbrev pub Read : Type 0 → Type 0

@@ -2,7 +2,7 @@ use super::*;
 use std::test::Fail;
 
 #[test]
-fn spellings(rt: HostRuntime) -> Result<(), Fail> {
+fn spellings_of_numbers(rt: HostRuntime) -> Result<(), Fail> {
     let unsigned: [(&[u8], Result<(u32, usize), Malformed>); 6] = [
         (&[0x2A, 0xFF], Ok((42, 1))),
         (&[0x80, 0x80, 0x80, 0x80, 0x00], Ok((0, 5))),

@@ -1,4 +1,5 @@
 -- Reading a minimal module from a list of bytes. What stands in a fixed place is read as nothing, `tt`.
+-- This project's own; that this is what the grammar spells is proved in `proofs/MinimalLaws`.
 use Rattle.std.specs.Prelude.{ℕ, ℤ, List, [], ◌∷◌, Option, Some, None, length, take, drop, nat_lt, bytes_eq, codes, ◌==◌, if◌then◌else◌}
 use Rattle.faaslet_meaning.specs.Grammar.{header}
 use Rattle.wasm_code.specs.Reading.{Read, mapped, unsigned_at, signed_at}
