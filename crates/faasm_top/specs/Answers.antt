@@ -1,6 +1,6 @@
 -- What is due to the words and the files: a line, and the status that goes with it. This project's own.
 -- PROVISIONAL: of the commands there is `call`, and of the modules those that are minimal.
-use Rattle.std.specs.Prelude.{◌≡◌, ℕ, ℤ, ◌≤◌, List, Option, length}
+use Rattle.std.specs.Prelude.{◌≡◌, ℕ, ℤ, ◌≤◌, Bool, false, List, [], Option, IsSome, IsTrue, length}
 use Rattle.fa_outside.specs.Appended.{Appends, AppendsPart}
 use Rattle.fa_outside.specs.Faults.{Rose}
 use Rattle.fa_outside.specs.Files.{Files, IsFile}
@@ -69,9 +69,17 @@ pub record WritesWhole (words : List (List ℕ)) (told : Option Files) (before a
   pub is_due : IsDue words told before after status line
   pub appends : Appends old new line
 
--- of a line that was due a front was written, and not all
-pub record WritesPart (words : List (List ℕ)) (told : Option Files) (before after : ℕ) (old new : Option (List ℕ)) : Type 0 where
+-- what is left of the shelf where a line with this status is due: after a read fault nothing is open; otherwise the
+-- file of the command is, and after a run it was read to its end
+pub record Leaves (words : List (List ℕ)) (told : Option Files) (status : ℕ) (is_open : Bool) (rest : List ℕ) : Type 0 where
+  pub closed : status ≡ 4 → is_open ≡ false
+  pub ended : status ≡ 0 → IsSome told → rest ≡ []
+  pub left_open : (command : Command) → CommandOf command words → (status ≡ 4 → ⊥) → IsTrue is_open
+
+-- of a line that was due a front was written, and not all; the shelf is left as the status of that line says
+pub record WritesPart (words : List (List ℕ)) (told : Option Files) (before after : ℕ) (old new : Option (List ℕ)) (is_open : Bool) (rest : List ℕ) : Type 0 where
   pub status : ℕ
   pub line : List ℕ
   pub is_due : IsDue words told before after status line
   pub appends : AppendsPart old new line
+  pub leaves : Leaves words told status is_open rest

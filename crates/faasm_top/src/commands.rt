@@ -95,7 +95,7 @@ pub fn answer<F: Shelf, O: Sink>(alloc: Global, words: &[String], shelf: &mut F,
     // The sink failed in that line.
     ensures part { result ≡ 5 →
         WritesPart (texts words.now) (F.told shelf.old) (F.faults shelf.old) (F.faults shelf.new)
-        (O.written out.old) (O.written out.new) }
+        (O.written out.old) (O.written out.new) (F.is_open shelf.new) (F.rest shelf.new) }
     ensures cause { result ≡ 5 → Rose (O.faults out.old) (O.faults out.new) }
 
     // There was no memory for it.
