@@ -2,12 +2,16 @@
 //! memory.
 #![tactic(auto)]
 
+mod fail_shelf;
+mod fail_sink;
 mod fault;
 mod mem_shelf;
 mod mem_sink;
 mod shelf;
 mod sink;
 
+pub use fail_shelf::FailShelf;
+pub use fail_sink::FailSink;
 pub use fault::{Failed, ReadFault};
 pub use mem_shelf::MemShelf;
 pub use mem_sink::MemSink;

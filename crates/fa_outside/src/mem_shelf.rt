@@ -51,7 +51,7 @@ impl MemShelf {
     }
 
     /// Counts a fault, after which nothing is open.
-    fn fail(&mut self) -> Failed
+    pub(crate) fn fail(&mut self) -> Failed
         ensures state { self.new ≡ failed self.old }
         ensures counted { self.old.faults ≤ self.new.faults }
         ensures rose { Rose self.old.faults self.new.faults }

@@ -45,6 +45,15 @@ impl MemSink {
     {
         &self.bytes
     }
+
+    /// Counts a fault.
+    pub(crate) fn fail(&mut self) -> Failed
+        ensures state { self.new ≡ refused self.old }
+        ensures counted { self.old.faults ≤ self.new.faults }
+    {
+        self.faults = self.faults.saturating_add(1);
+        Failed
+    }
 }
 
 impl Sink for MemSink {
@@ -63,8 +72,7 @@ impl Sink for MemSink {
         ensures counted { self.old.faults ≤ self.new.faults }
     {
         if !bytes.is_empty() && self.room == 0 {
-            self.faults = self.faults.saturating_add(1);
-            return Err(Failed);
+            return Err(self.fail());
         }
         let n = bytes.len().min(self.room);
         self.bytes.extend_from_slice(&bytes[..n]).unwrap();

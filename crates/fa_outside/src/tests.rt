@@ -30,3 +30,31 @@ fn reads_and_writes_in_pieces(rt: HostRuntime) -> Result<(), Fail> {
     assert_eq!(rt; sink.bytes(), b"abcde".as_slice());
     Ok(())
 }
+
+#[test]
+fn calls_fail_by_their_numbers(rt: HostRuntime) -> Result<(), Fail> {
+    let alloc = rt.alloc();
+    let mut files = Vec::new(alloc);
+    files.push((
+        String::from_str(alloc, "short")?,
+        Vec::from_slice(alloc, b"ab")?,
+    ))?;
+    let mut shelf = FailShelf::new(MemShelf::new(files), Vec::from_slice(alloc, &[1, 3])?);
+    let mut buffer = [0; 4];
+    assert_eq!(rt; shelf.open("short"), Ok(()));
+    assert_eq!(rt; shelf.read(&mut buffer), Err(Failed));
+    assert_eq!(rt; shelf.read(&mut buffer), Err(Failed));
+    assert_eq!(rt; shelf.open("short"), Err(Failed));
+    assert_eq!(rt;
+        read_file(alloc, &mut shelf, "short", 2)?.as_slice(),
+        b"ab".as_slice()
+    );
+
+    let inner = MemSink::with_room(alloc, 9)?;
+    let mut sink = FailSink::new(inner, Vec::from_slice(alloc, &[0, 1])?);
+    assert_eq!(rt; sink.write(b"a"), Err(Failed));
+    assert_eq!(rt; sink.write(b""), Ok(0));
+    assert_eq!(rt; sink.write(b"abc"), Ok(3));
+    assert_eq!(rt; sink.inner().bytes(), b"abc".as_slice());
+    Ok(())
+}

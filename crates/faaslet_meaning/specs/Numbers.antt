@@ -2,8 +2,9 @@
 use Rattle.std.specs.Prelude.{◌≡◌, ℕ, ℤ, pos, ◌+ℤ◌, ◌*ℤ◌, ◌+◌, ◌-◌, ◌*◌, ◌^◌, ◌<◌, ◌≤◌, ◌⊎◌, List, [], ◌∷◌, length}
 use Rattle.faaslet_meaning.specs.Productions.{◌⨾◌, IsMany}
 
--- uN. A byte below 128 is the last and stands for itself. One from 128 on has the low seven bits, and the
--- bytes after it spell the rest, as a number of seven bits fewer.
+-- uN. A byte below 128 is the last and stands for itself, where that fits the bits that are left. One from 128 on, which
+-- stands only where more than seven bits are left, has the low seven, and the bytes after it spell the rest, as a number of
+-- seven bits fewer.
 abbrev pub IsUnsigned : ℕ → ℕ → List ℕ → Type 0
 IsUnsigned bits n [] = ⊥
 IsUnsigned bits n (b ∷ []) = (b < 128) × (b < 2 ^ bits) × (n ≡ b)
@@ -23,6 +24,9 @@ IsU32 = IsUnsigned 32
 
 abbrev pub IsS32 : ℤ → List ℕ → Type 0
 IsS32 = IsSigned 32
+
+abbrev pub IsS64 : ℤ → List ℕ → Type 0
+IsS64 = IsSigned 64
 
 -- a count, and so many items. Section 5.1.3, Vectors
 abbrev pub IsVec : {A : Type 0} → (A → List ℕ → Type 0) → List A → List ℕ → Type 0

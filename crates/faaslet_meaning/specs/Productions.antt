@@ -1,6 +1,6 @@
--- The words in which the binary grammar is written. A production is a relation of a value and the bytes that
--- spell it. The entries of a list of bytes are below 256. W3C WebAssembly Core Specification 1.0, section 5.1.1,
--- Grammar.
+-- The words in which the binary grammar is written. A language is a property of lists of bytes, and a production gives each
+-- value the language of its spellings. Where a clause names bytes they are below 256; the relations do not say it. W3C
+-- WebAssembly Core Specification 1.0, section 5.1.1, Grammar.
 use Rattle.std.specs.Prelude.{◌≡◌, ℕ, List, [], ◌∷◌, ◌++◌, ◌≤◌, length, take}
 
 -- just this byte
@@ -41,6 +41,12 @@ pub record Front {A : Type 0} (P : A → List ℕ → Type 0) (bytes : List ℕ)
   pub text : List ℕ
   pub parts : bytes ≡ text ++ rest
   pub spells : P x text
+
+-- the bytes begin with words of this language
+pub record Fronts (L : List ℕ → Type 0) (bytes rest : List ℕ) : Type 0 where
+  pub text : List ℕ
+  pub parts : bytes ≡ text ++ rest
+  pub spells : L text
 
 -- the bytes begin with no spelling
 pub record NoFront {A : Type 0} (P : A → List ℕ → Type 0) (bytes : List ℕ) : Type 0 where

@@ -64,6 +64,17 @@ line text = text ++ 10 ∷ []
 abbrev pub call_line : Outcome → List ℕ → ℕ → List ℕ
 call_line o output used = line (codes "call " ++ outcome_text o output used)
 
+abbrev pub usage : List ℕ
+usage = line (codes "usage: faasm check FILE | call FILE INPUTHEX FUEL | trace SESSION SEED | run SESSION | load N")
+
+-- the refusals of a module
+abbrev pub too_long : List ℕ
+too_long = line (codes "too long")
+
+abbrev pub invalid_function : ℕ → List ℕ
+invalid_function k = line (codes "invalid function " ++ decimal k)
+
+-- what isn't built yet
 abbrev pub not_built : List ℕ
 not_built = line (codes "not built")
 

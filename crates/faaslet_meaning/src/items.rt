@@ -16,6 +16,10 @@ pub type Bytes = Items<u8>;
 
 pub type Labels = Items<u32>;
 
+pub type Counts = Items<u64>;
+
+pub type Pairs = Items<(u32, u32)>;
+
 impl<T> Model for Items<T> {
     ghost use Rattle.std.specs.Prelude.{List};
     ghost use Rattle.std.specs.Coded.{coded_list};

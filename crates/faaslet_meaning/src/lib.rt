@@ -2,18 +2,38 @@
 //! contracts cite, in `specs/`, and the laws that hold of those alone.
 #![tactic(auto)]
 
+mod ask;
+mod grammar_laws;
+mod grant;
 mod instr;
 mod items;
 mod laws;
+mod linear;
 mod module;
 mod outcome;
+mod run_laws;
+mod texts;
+mod typing_laws;
 
+pub use ask::{Ask, AskOp, Move, RegionOp, Reply};
+pub use grammar_laws::{one_answer, one_expression, one_module, one_number};
+pub use grant::{Channel, Grant, Grants, Mode};
 pub use instr::{Instr, ValType};
-pub use items::{Bytes, Items, Labels};
-pub use laws::{one_command, one_outcome};
+pub use items::{Bytes, Counts, Items, Labels, Pairs};
+pub use laws::one_command;
+pub use linear::{Full, Home, Linear, MapFull, Outside, Piece};
 pub use module::{
     Bodies, Body, Code, Element, Elements, Export, ExportKind, Exports, FuncType, FuncTypes,
     GlobalDef, GlobalDefs, GlobalType, Import, ImportKind, Imports, Limits, LimitsList, LocalGroup,
     LocalGroups, Module, Segment, Segments, Types,
 };
 pub use outcome::{Broken, Outcome, Trap};
+pub use run_laws::{
+    each_reply_asks_less, each_step_leaves_less, few_questions, few_steps, no_reply_leaves_more,
+    no_step_asks_more, one_outcome, steps_at_first,
+};
+pub use texts::Texts;
+pub use typing_laws::{
+    entry_is_typed, finished_is_typed, never_lost, never_stuck, resumed_is_typed, step_is_typed,
+    valid_is_made, valid_program_is_typed,
+};

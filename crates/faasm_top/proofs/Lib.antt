@@ -1,6 +1,8 @@
+pub mod Decimals
 pub mod Dues
-pub mod FourWords
-pub mod Fuels
 pub mod Inputs
-pub mod MinimalRuns
+pub mod Machine
+pub mod Numbers
 pub mod OneLine
+pub mod Types
+pub mod Rules

@@ -1,2 +1,5 @@
 pub mod Answers
 pub mod Commands
+pub mod Endings
+pub mod Heights
+pub mod Operands

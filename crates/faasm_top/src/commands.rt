@@ -1,16 +1,17 @@
 //! What the program does.
 
-ghost use Rattle.std.specs.Prelude.{◌≡◌, ℕ, ◌<◌, ◌≤◌, ◌≢◌, ◌⊎◌, List, [], Some, IsSome, IsTrue, IfOk, false};
+ghost use Rattle.std.specs.Prelude.{◌≡◌, ℕ, ◌<◌, ◌≤◌, ◌≢◌, ◌⊎◌, List, [], Some, IsSome, IsTrue, IfOk, length, false};
 ghost use Rattle.std.specs.String.{string_bytes};
 ghost use Rattle.fa_outside.specs.Faults.{Rose};
-ghost use Rattle.fa_outside.specs.Files.{Files};
-ghost use Rattle.faaslet_meaning.specs.Productions.{NoSpelling};
+ghost use Rattle.fa_outside.specs.Files.{Files, IsFile};
+ghost use Rattle.faaslet_meaning.specs.Decoding.{module_limit};
 ghost use Rattle.faaslet_meaning.specs.Words.{call, CommandOf};
-ghost use Rattle.faaslet_meaning.specs.Words as meaning;
-ghost use Rattle.faasm_top.specs.Answers.{code_of, IsDue, WritesWhole, WritesPart};
-ghost use Rattle.faasm_top.specs.Commands.{texts, file_word};
+ghost use Rattle.faasm_top.specs.Answers.{code_of, IsLater, NoCall, IsDue, DueToModule, WritesWhole, WritesPart};
+ghost use Rattle.faasm_top.specs.Commands.{texts, command_of};
 
-use crate::report::{Report, Status, done, not_built, read_fault};
+use crate::report::{Report, Status, not_built, ran, read_fault, too_long, untyped, usage};
+use crate::run::run;
+use crate::typing::is_typed;
 use crate::words::{Command, WordsFault, read_words};
 use fa_outside::{Failed, ReadFault, Shelf, Sink, read_file, write_whole};
 use std::alloc::{AllocError, Global};
@@ -19,17 +20,36 @@ use wasm_decode::read_minimal;
 /// The bytes of a module file.
 const MODULE_LIMIT: usize = 4_194_304;
 
-/// The fuel of a minimal module: `main` begins one instruction, which pushes its result.
-const USED: u64 = 1;
+/// Answers a call of the module that these bytes are, whatever its input.
+fn answer_module(alloc: Global, bytes: &[u8], fuel: u64) -> Result<Report, AllocError>
+    requires { length bytes.now ≤ module_limit }
+    ensures due { IfOk result (λ r. DueToModule bytes.now fuel
+        (code_of r.status) (string_bytes r.line)) }
+    ensures no_fault { IfOk result (λ r. code_of r.status ≢ 4) }
+{
+    let Some(code) = read_minimal(alloc, bytes)? else {
+        return not_built(alloc);
+    };
+    let code = code.as_slice();
+    if !is_typed(code) {
+        return untyped(alloc);
+    }
+    ran(alloc, &run(alloc, code, fuel)?)
+}
 
-/// Answers a call of the module in a file, whatever its input and its fuel.
-fn answer_call<F: Shelf>(alloc: Global, shelf: &mut F, file: &str) -> Result<Report, AllocError>
-    ensures due { IfOk result (λ r. (words : List (List ℕ)) (input : List ℕ) (fuel : ℕ)
+/// Answers a call of the module in a file, whatever its input.
+fn answer_call<F: Shelf>(
+    alloc: Global,
+    shelf: &mut F,
+    file: &str,
+    fuel: u64,
+) -> Result<Report, AllocError>
+    ensures due { IfOk result (λ r. (words : List (List ℕ)) (input : List ℕ)
         → CommandOf (call file.now input fuel) words
         → IsDue words (F.told shelf.old) (F.faults shelf.old) (F.faults shelf.new)
         (code_of r.status) (string_bytes r.line)) }
     ensures closed { IfOk result (λ r. code_of r.status ≡ 4 → F.is_open shelf.new ≡ false) }
-    ensures ended { IfOk result (λ r. code_of r.status ≡ 0
+    ensures ended { IfOk result (λ r. code_of r.status ≤ 1
         → IsSome (F.told shelf.old) → F.rest shelf.new ≡ []) }
     ensures left_open { IfOk result (λ r. code_of r.status ≢ 4 → IsTrue (F.is_open shelf.new)) }
     ensures told { F.told shelf.new ≡ F.told shelf.old }
@@ -38,21 +58,34 @@ fn answer_call<F: Shelf>(alloc: Global, shelf: &mut F, file: &str) -> Result<Rep
     let bytes = match read_file(alloc, shelf, file, MODULE_LIMIT) {
         Ok(bytes) => bytes,
         Err(ReadFault::Failed) => return read_fault(alloc),
-        Err(ReadFault::TooLong) => return not_built(alloc),
+        Err(ReadFault::TooLong) => return too_long(alloc),
         Err(ReadFault::Want) => return Err(AllocError),
     };
-    match read_minimal(&bytes) {
-        Some(constant) => done(alloc, constant, USED),
-        None => not_built(alloc),
-    }
+    answer_module(alloc, &bytes, fuel)
 }
 
-/// The file that a command names.
-fn file_of<'w>(command: &Command<'w>) -> &'w str
-    ensures { result.now ≡ file_word command.now }
+/// Answers a command.
+fn answer_command<F: Shelf>(
+    alloc: Global,
+    shelf: &mut F,
+    command: &Command<'_>,
+) -> Result<Report, AllocError>
+    ensures due { IfOk result (λ r. (words : List (List ℕ))
+        → CommandOf (command_of command.now) words
+        → IsDue words (F.told shelf.old) (F.faults shelf.old) (F.faults shelf.new)
+        (code_of r.status) (string_bytes r.line)) }
+    ensures untouched { IsLater (command_of command.now) → shelf.new ≡ shelf.old }
+    ensures closed { IfOk result (λ r. code_of r.status ≡ 4 → F.is_open shelf.new ≡ false) }
+    ensures ended { IfOk result (λ r. code_of r.status ≤ 1
+        → IsSome (F.told shelf.old) → F.rest shelf.new ≡ []) }
+    ensures left_open { IfOk result (λ r. (IsLater (command_of command.now) → ⊥)
+        → code_of r.status ≢ 4 → IsTrue (F.is_open shelf.new)) }
+    ensures told { F.told shelf.new ≡ F.told shelf.old }
+    ensures counted { F.faults shelf.old ≤ F.faults shelf.new }
 {
     match command {
-        Command::Call { file, .. } => file,
+        Command::Call { file, fuel, .. } => answer_call(alloc, shelf, file, *fuel),
+        _ => not_built(alloc),
     }
 }
 
@@ -65,21 +98,22 @@ fn answer_words<F: Shelf>(
     ensures due { IfOk result (λ r.
         IsDue (texts words.now) (F.told shelf.old) (F.faults shelf.old) (F.faults shelf.new)
         (code_of r.status) (string_bytes r.line)) }
-    ensures untouched { NoSpelling CommandOf (texts words.now) → shelf.new ≡ shelf.old }
+    ensures untouched { NoCall (texts words.now) → shelf.new ≡ shelf.old }
     ensures closed { IfOk result (λ r. code_of r.status ≡ 4 → F.is_open shelf.new ≡ false) }
-    ensures ended { IfOk result (λ r. code_of r.status ≡ 0
+    ensures ended { IfOk result (λ r. code_of r.status ≤ 1
         → IsSome (F.told shelf.old) → F.rest shelf.new ≡ []) }
-    ensures left_open { IfOk result (λ r. (c : meaning.Command) → CommandOf c (texts words.now)
+    ensures left_open { IfOk result (λ r. (file input : List ℕ) (fuel : ℕ)
+        → CommandOf (call file input fuel) (texts words.now)
         → code_of r.status ≢ 4 → IsTrue (F.is_open shelf.new)) }
     ensures told { F.told shelf.new ≡ F.told shelf.old }
     ensures counted { F.faults shelf.old ≤ F.faults shelf.new }
 {
     let command = match read_words(alloc, words) {
         Ok(command) => command,
-        Err(WordsFault::Usage) => return not_built(alloc),
+        Err(WordsFault::Usage) => return usage(alloc),
         Err(WordsFault::Want) => return Err(AllocError),
     };
-    answer_call(alloc, shelf, file_of(&command))
+    answer_command(alloc, shelf, &command)
 }
 
 /// Does what the words say, without the program's own name: it reads the files that they name,
@@ -102,11 +136,12 @@ pub fn answer<F: Shelf, O: Sink>(alloc: Global, words: &[String], shelf: &mut F,
     ensures want { result ≡ 6 → out.new ≡ out.old }
 
     // What it leaves of the shelf.
-    ensures untouched { NoSpelling CommandOf (texts words.now) → shelf.new ≡ shelf.old }
+    ensures untouched { NoCall (texts words.now) → shelf.new ≡ shelf.old }
     ensures closed { result ≡ 4 → F.is_open shelf.new ≡ false }
-    ensures ended { result ≡ 0 → IsSome (F.told shelf.old) → F.rest shelf.new ≡ [] }
-    ensures left_open { (c : meaning.Command) → CommandOf c (texts words.now)
-        → (result ≡ 0) ⊎ (result ≡ 3) → IsTrue (F.is_open shelf.new) }
+    ensures ended { result ≤ 1 → IsSome (F.told shelf.old) → F.rest shelf.new ≡ [] }
+    ensures left_open { (file input : List ℕ) (fuel : ℕ)
+        → CommandOf (call file input fuel) (texts words.now)
+        → (result ≤ 1) ⊎ (result ≡ 3) → IsTrue (F.is_open shelf.new) }
     ensures told { F.told shelf.new ≡ F.told shelf.old }
     ensures shelf_counted { F.faults shelf.old ≤ F.faults shelf.new }
     ensures out_counted { O.faults out.old ≤ O.faults out.new }

@@ -2,7 +2,10 @@
 #![tactic(auto)]
 
 mod commands;
+mod operands;
 mod report;
+mod run;
+mod typing;
 mod words;
 
 pub use commands::{answer, one_line};
@@ -11,3 +14,5 @@ pub use words::{Command, WordsFault, read_words};
 
 #[cfg(test)]
 mod tests;
+#[cfg(test)]
+mod word_tests;

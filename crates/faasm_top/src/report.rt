@@ -2,10 +2,11 @@
 
 ghost use Rattle.std.specs.Prelude.{◌≡◌, [], IfOk};
 ghost use Rattle.std.specs.String.{string_bytes};
-ghost use Rattle.faaslet_meaning.specs.declared.outcome.Outcome.TheVariants as outcome;
 ghost use Rattle.faaslet_meaning.specs.Report as report;
-ghost use Rattle.faasm_top.specs.Answers.{code_of};
+ghost use Rattle.faasm_top.specs.Answers.{code_of, status_of};
+ghost use Rattle.faasm_top.specs.Endings.{outcome_of};
 
+use crate::run::{Ending, Ran};
 use std::alloc::{AllocError, Global};
 
 /// How the program ends.
@@ -13,7 +14,11 @@ use std::alloc::{AllocError, Global};
 pub enum Status {
     /// The call came to its end.
     Done = 0,
-    /// What the words ask for isn't built yet.
+    /// It trapped, or spent its fuel.
+    NotDone = 1,
+    /// The words are no command.
+    Usage = 2,
+    /// A file was refused, or the command isn't built yet.
     Refused = 3,
     /// A file can't be read.
     ShelfFailed = 4,
@@ -39,15 +44,56 @@ pub struct Report {
     pub line: String,
 }
 
-/// A run to its end, without output.
-pub fn done(alloc: Global, code: i32, used: u64) -> Result<Report, AllocError>
-    ensures status { IfOk result (λ r. code_of r.status ≡ 0) }
-    ensures line { IfOk result (λ r.
-        string_bytes r.line ≡ report.call_line (outcome.Done code) [] used) }
+/// The line of a run to its end, without output.
+fn done_line(alloc: Global, value: u32, used: u64) -> Result<String, AllocError>
+    ensures { IfOk result (λ l.
+        string_bytes l ≡ report.call_line (outcome_of (Ending.Done value)) [] used) }
+{
+    let code = value.cast_signed();
+    Ok(format!(in alloc; "call done {code} used {used} output \n")?)
+}
+
+/// The line of a run that found no room for a value.
+fn exhausted_line(alloc: Global, used: u64) -> Result<String, AllocError>
+    ensures { IfOk result (λ l.
+        string_bytes l ≡ report.call_line (outcome_of Ending.StackExhausted) [] used) }
+{
+    format!(in alloc; "call trap stack exhausted used {used}\n")
+}
+
+/// What a run came to.
+pub fn ran(alloc: Global, ran: &Ran) -> Result<Report, AllocError>
+    ensures status { IfOk result (λ r. code_of r.status ≡ status_of (outcome_of ran.now.ending)) }
+    ensures line { IfOk result (λ r. string_bytes r.line
+        ≡ report.call_line (outcome_of ran.now.ending) [] ran.now.used) }
+{
+    match ran.ending {
+        Ending::Done(value) => Ok(Report {
+            status: Status::Done,
+            line: done_line(alloc, value, ran.used)?,
+        }),
+        Ending::FuelOut => Ok(Report {
+            status: Status::NotDone,
+            line: String::from_str(alloc, "call fuel\n")?,
+        }),
+        Ending::StackExhausted => Ok(Report {
+            status: Status::NotDone,
+            line: exhausted_line(alloc, ran.used)?,
+        }),
+    }
+}
+
+/// Words that are no command.
+pub fn usage(alloc: Global) -> Result<Report, AllocError>
+    ensures status { IfOk result (λ r. code_of r.status ≡ 2) }
+    ensures line { IfOk result (λ r. string_bytes r.line ≡ report.usage) }
 {
     Ok(Report {
-        status: Status::Done,
-        line: format!(in alloc; "call done {code} used {used} output \n")?,
+        status: Status::Usage,
+        line: String::from_str(
+            alloc,
+            "usage: faasm check FILE | call FILE INPUTHEX FUEL | trace SESSION SEED | run SESSION | load N\n",
+        )?,
     })
 }
 
@@ -59,6 +105,28 @@ pub fn not_built(alloc: Global) -> Result<Report, AllocError>
     Ok(Report {
         status: Status::Refused,
         line: String::from_str(alloc, "not built\n")?,
+    })
+}
+
+/// A file that is longer than a module may be.
+pub fn too_long(alloc: Global) -> Result<Report, AllocError>
+    ensures status { IfOk result (λ r. code_of r.status ≡ 3) }
+    ensures line { IfOk result (λ r. string_bytes r.line ≡ report.too_long) }
+{
+    Ok(Report {
+        status: Status::Refused,
+        line: String::from_str(alloc, "too long\n")?,
+    })
+}
+
+/// A module whose function 0 is untyped.
+pub fn untyped(alloc: Global) -> Result<Report, AllocError>
+    ensures status { IfOk result (λ r. code_of r.status ≡ 3) }
+    ensures line { IfOk result (λ r. string_bytes r.line ≡ report.invalid_function 0) }
+{
+    Ok(Report {
+        status: Status::Refused,
+        line: String::from_str(alloc, "invalid function 0\n")?,
     })
 }
 

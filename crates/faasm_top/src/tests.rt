@@ -1,10 +1,10 @@
 use super::*;
-use fa_outside::{MemShelf, MemSink};
+use fa_outside::{FailShelf, FailSink, MemShelf, MemSink};
 use std::alloc::{AllocError, Global};
 use std::test::Fail;
 
 /// The module whose `main` returns 42.
-const ANSWER: [u8; 37] = [
+pub const ANSWER: [u8; 37] = [
     0x00, 0x61, 0x73, 0x6D, 0x01, 0x00, 0x00, 0x00, 0x01, 0x05, 0x01, 0x60, 0x00, 0x01, 0x7F, 0x03,
     0x02, 0x01, 0x00, 0x07, 0x08, 0x01, 0x04, 0x6D, 0x61, 0x69, 0x6E, 0x00, 0x00, 0x0A, 0x06, 0x01,
     0x04, 0x00, 0x41, 0x2A, 0x0B,
@@ -17,19 +17,24 @@ const FUNCTIONS: usize = 15;
 
 const CODE: usize = 29;
 
-const DONE: &str = "call done 42 used 1 output \n";
+pub const DONE: &str = "call done 42 used 1 output \n";
 
-const NOT_BUILT: &str = "not built\n";
+pub const NOT_BUILT: &str = "not built\n";
 
-/// Other bytes in the place of those from a start to an end, and the line that is due to them.
-const ROWS: [(&str, usize, usize, &[u8], &str); 13] = [
-    ("as it is", 0, 0, &[], DONE),
+const UNTYPED: &str = "invalid function 0\n";
+
+/// Other bytes in the place of those from a start to an end, and the line and the status that are due
+/// to a call with this fuel.
+const ROWS: [(&str, usize, usize, &[u8], &str, &str, u8); 21] = [
+    ("as it is", 0, 0, &[], "10", DONE, 0),
     (
         "42 in three bytes",
         CODE,
         37,
         &[0x0A, 0x08, 0x01, 0x06, 0x00, 0x41, 0xAA, 0x80, 0x00, 0x0B],
+        "10",
         DONE,
+        0,
     ),
     (
         "42 in five bytes",
@@ -38,28 +43,36 @@ const ROWS: [(&str, usize, usize, &[u8], &str); 13] = [
         &[
             0x0A, 0x0A, 0x01, 0x08, 0x00, 0x41, 0xAA, 0x80, 0x80, 0x80, 0x00, 0x0B,
         ],
+        "10",
         DONE,
+        0,
     ),
     (
         "a size in five bytes",
         TYPES + 1,
         TYPES + 2,
         &[0x85, 0x80, 0x80, 0x80, 0x00],
+        "10",
         DONE,
+        0,
     ),
     (
         "two sizes and a count in two bytes",
         CODE,
         37,
         &[0x0A, 0x87, 0x00, 0x01, 0x84, 0x00, 0x00, 0x41, 0x2A, 0x0B],
+        "10",
         DONE,
+        0,
     ),
     (
         "a count in two bytes",
         FUNCTIONS + 1,
         FUNCTIONS + 3,
         &[0x03, 0x81, 0x00],
+        "10",
         DONE,
+        0,
     ),
     (
         "the smallest",
@@ -68,7 +81,82 @@ const ROWS: [(&str, usize, usize, &[u8], &str); 13] = [
         &[
             0x0A, 0x0A, 0x01, 0x08, 0x00, 0x41, 0x80, 0x80, 0x80, 0x80, 0x78, 0x0B,
         ],
+        "10",
         "call done -2147483648 used 1 output \n",
+        0,
+    ),
+    (
+        "a sum",
+        CODE,
+        37,
+        &[
+            0x0A, 0x09, 0x01, 0x07, 0x00, 0x41, 0x28, 0x41, 0x02, 0x6A, 0x0B,
+        ],
+        "3",
+        "call done 42 used 3 output \n",
+        0,
+    ),
+    (
+        "sums of sums",
+        CODE,
+        37,
+        &[
+            0x0A, 0x0F, 0x01, 0x0D, 0x00, 0x41, 0x01, 0x41, 0x02, 0x41, 0x7B, 0x41, 0x04, 0x6A,
+            0x6A, 0x6A, 0x0B,
+        ],
+        "10",
+        "call done 2 used 7 output \n",
+        0,
+    ),
+    (
+        "the greatest and one",
+        CODE,
+        37,
+        &[
+            0x0A, 0x0D, 0x01, 0x0B, 0x00, 0x41, 0xFF, 0xFF, 0xFF, 0xFF, 0x07, 0x41, 0x01, 0x6A,
+            0x0B,
+        ],
+        "10",
+        "call done -2147483648 used 3 output \n",
+        0,
+    ),
+    (
+        "a sum, and one unit of fuel too few",
+        CODE,
+        37,
+        &[
+            0x0A, 0x09, 0x01, 0x07, 0x00, 0x41, 0x28, 0x41, 0x02, 0x6A, 0x0B,
+        ],
+        "2",
+        "call fuel\n",
+        1,
+    ),
+    (
+        "an addition of one value",
+        CODE,
+        37,
+        &[0x0A, 0x05, 0x01, 0x03, 0x00, 0x6A, 0x0B],
+        "10",
+        UNTYPED,
+        3,
+    ),
+    (
+        "two values at the end",
+        CODE,
+        37,
+        &[0x0A, 0x08, 0x01, 0x06, 0x00, 0x41, 0x2A, 0x41, 0x2A, 0x0B],
+        "10",
+        UNTYPED,
+        3,
+    ),
+    (
+        "no value at the end",
+        CODE,
+        37,
+        &[0x0A, 0x04, 0x01, 0x02, 0x00, 0x0B],
+        "10",
+        UNTYPED,
+        3,
     ),
     (
         "unused bits that are no sign",
@@ -77,7 +165,9 @@ const ROWS: [(&str, usize, usize, &[u8], &str); 13] = [
         &[
             0x0A, 0x0A, 0x01, 0x08, 0x00, 0x41, 0x80, 0x80, 0x80, 0x80, 0x38, 0x0B,
         ],
+        "10",
         NOT_BUILT,
+        3,
     ),
     (
         "a sixth byte",
@@ -86,43 +176,57 @@ const ROWS: [(&str, usize, usize, &[u8], &str); 13] = [
         &[
             0x0A, 0x0B, 0x01, 0x09, 0x00, 0x41, 0xAA, 0x80, 0x80, 0x80, 0x80, 0x00, 0x0B,
         ],
+        "10",
         NOT_BUILT,
+        3,
     ),
     (
         "a `nop` before it",
         CODE,
         37,
         &[0x0A, 0x07, 0x01, 0x05, 0x00, 0x01, 0x41, 0x2A, 0x0B],
+        "10",
         NOT_BUILT,
+        3,
+    ),
+    (
+        "an end before the end",
+        CODE,
+        37,
+        &[0x0A, 0x07, 0x01, 0x05, 0x00, 0x41, 0x2A, 0x0B, 0x0B],
+        "10",
+        NOT_BUILT,
+        3,
     ),
     (
         "a size one too large",
         TYPES + 1,
         TYPES + 2,
         &[0x06],
+        "10",
         NOT_BUILT,
+        3,
     ),
     (
         "a custom section",
         TYPES,
         TYPES,
         &[0x00, 0x01, 0x00],
+        "10",
         NOT_BUILT,
+        3,
     ),
-    ("a byte behind it", 37, 37, &[0x00], NOT_BUILT),
+    ("a byte behind it", 37, 37, &[0x00], "10", NOT_BUILT, 3),
 ];
 
 /// What the words answer over one file, and what they write where there is so much room.
-fn answered(
+pub fn answered(
     alloc: Global,
     words: &[&str],
     file: &[u8],
     room: usize,
 ) -> Result<(u8, Vec<u8>), Fail> {
-    let mut owned = Vec::new(alloc);
-    for word in words {
-        owned.push(String::from_str(alloc, word)?)?;
-    }
+    let owned = owned(alloc, words)?;
     let mut files = Vec::new(alloc);
     files.push((
         String::from_str(alloc, "m.wasm")?,
@@ -134,13 +238,6 @@ fn answered(
     Ok((status, Vec::from_slice(alloc, out.bytes())?))
 }
 
-/// Whether a call of this file writes the line, with the status that goes with it.
-fn answers(alloc: Global, file: &[u8], line: &str) -> Result<bool, Fail> {
-    let (status, written) = answered(alloc, &["call", "m.wasm", "", "10"], file, 100)?;
-    let due = if line == NOT_BUILT { 3 } else { 0 };
-    Ok(status == due && written.as_slice() == line.as_bytes())
-}
-
 /// The module with other bytes in the place of those from `start` to `end`.
 fn replaced(alloc: Global, start: usize, end: usize, other: &[u8]) -> Result<Vec<u8>, AllocError> {
     let mut bytes = Vec::new(alloc);
@@ -150,63 +247,134 @@ fn replaced(alloc: Global, start: usize, end: usize, other: &[u8]) -> Result<Vec
     Ok(bytes)
 }
 
+/// The module whose section of code begins so, and whose body has so many constants 1 and then so many
+/// additions.
+fn long_module(
+    alloc: Global,
+    head: &[u8],
+    constants: usize,
+    additions: usize,
+) -> Result<Vec<u8>, AllocError> {
+    let mut bytes = Vec::new(alloc);
+    bytes.extend_from_slice(&ANSWER[..CODE])?;
+    bytes.extend_from_slice(head)?;
+    for _ in 0..constants {
+        bytes.extend_from_slice(&[0x41, 0x01])?;
+    }
+    for _ in 0..additions {
+        bytes.push(0x6A)?;
+    }
+    bytes.push(0x0B)?;
+    Ok(bytes)
+}
+
 #[test]
 fn calls_of_modules(rt: HostRuntime) -> Result<(), Fail> {
     let alloc = rt.alloc();
-    for (name, start, end, other, line) in ROWS {
+    for (name, start, end, other, fuel, line, status) in ROWS {
         let file = replaced(alloc, start, end, other)?;
-        assert!(rt; answers(alloc, &file, line)?, "{name}");
+        let (answer, written) = answered(alloc, &["call", "m.wasm", "", fuel], &file, 100)?;
+        assert_eq!(rt; written.as_slice(), line.as_bytes(), "{name}");
+        assert_eq!(rt; answer, status, "{name}");
     }
     for len in 0..ANSWER.len() {
-        assert!(rt; answers(alloc, &ANSWER[..len], NOT_BUILT)?, "{len} bytes");
+        let (answer, written) = answered(
+            alloc,
+            &["call", "m.wasm", "", "10"],
+            &ANSWER[..len],
+            100,
+        )?;
+        assert_eq!(rt; written.as_slice(), NOT_BUILT.as_bytes(), "{len} bytes");
+        assert_eq!(rt; answer, 3, "{len} bytes");
     }
     Ok(())
 }
 
 #[test]
-fn a_long_file_is_not_built(rt: HostRuntime) -> Result<(), Fail> {
+fn limits_of_a_call(rt: HostRuntime) -> Result<(), Fail> {
     let alloc = rt.alloc();
-    let long = vec![in alloc; 0; 4_194_305]?;
-    assert!(rt; answers(alloc, &long, NOT_BUILT)?);
-    Ok(())
-}
-
-#[test]
-fn words_give_line_and_status(rt: HostRuntime) -> Result<(), Fail> {
-    let rows: [(&[&str], usize, u8, &str); 13] = [
-        (&["call", "m.wasm", "0aFf", "1"], 100, 0, DONE),
-        (&["call", "m.wasm", "", "1099511627776"], 100, 0, DONE),
-        (&["call", "absent", "", "10"], 100, 4, "read fault\n"),
-        (&["call", "m.wasm", "0aF", "10"], 100, 3, NOT_BUILT),
-        (&["call", "m.wasm", "0g", "10"], 100, 3, NOT_BUILT),
-        (&["call", "m.wasm", "", "0"], 100, 3, NOT_BUILT),
-        (&["call", "m.wasm", "", "010"], 100, 3, NOT_BUILT),
-        (&["call", "m.wasm", "", "+10"], 100, 3, NOT_BUILT),
-        (&["call", "m.wasm", "", "1099511627777"], 100, 3, NOT_BUILT),
-        (&["call", "m.wasm", ""], 100, 3, NOT_BUILT),
-        (&[], 100, 3, NOT_BUILT),
-        (&["call", "m.wasm", "", "10"], 9, 5, "call done"),
-        (&["call", "absent", "", "10"], 0, 5, ""),
+    let most = long_module(
+        alloc,
+        &[
+            0x0A, 0x86, 0x80, 0x8C, 0x00, 0x01, 0x81, 0x80, 0x8C, 0x00, 0x00,
+        ],
+        65_536,
+        65_535,
+    )?;
+    let more = long_module(
+        alloc,
+        &[
+            0x0A, 0x89, 0x80, 0x8C, 0x00, 0x01, 0x84, 0x80, 0x8C, 0x00, 0x00,
+        ],
+        65_537,
+        65_536,
+    )?;
+    let left = long_module(
+        alloc,
+        &[
+            0x0A, 0x89, 0x80, 0x88, 0x00, 0x01, 0x84, 0x80, 0x88, 0x00, 0x00,
+        ],
+        65_537,
+        0,
+    )?;
+    let full = vec![in alloc; 0; 4_194_304]?;
+    let over = vec![in alloc; 0; 4_194_305]?;
+    let rows: [(&[u8], &str, u8); 5] = [
+        (&most, "call done 65536 used 131071 output \n", 0),
+        (&more, "call trap stack exhausted used 65537\n", 1),
+        (&left, UNTYPED, 3),
+        (&full, NOT_BUILT, 3),
+        (&over, "too long\n", 3),
     ];
-    for (words, room, status, line) in rows {
-        let (answer, written) = answered(rt.alloc(), words, &ANSWER, room)?;
-        assert_eq!(rt; written.as_slice(), line.as_bytes(), "{words:?}");
-        assert_eq!(rt; answer, status, "{words:?}");
+    for (file, line, status) in rows {
+        let (answer, written) = answered(alloc, &["call", "m.wasm", "", "1000000"], file, 100)?;
+        assert_eq!(rt; written.as_slice(), line.as_bytes());
+        assert_eq!(rt; answer, status, "{line}");
     }
     Ok(())
 }
 
+/// A shelf that holds the module.
+fn shelf(alloc: Global) -> Result<MemShelf, AllocError> {
+    let mut files = Vec::new(alloc);
+    files.push((
+        String::from_str(alloc, "m.wasm")?,
+        Vec::from_slice(alloc, &ANSWER)?,
+    ))?;
+    Ok(MemShelf::new(files))
+}
+
 #[test]
-fn reads_a_call(rt: HostRuntime) -> Result<(), Fail> {
+fn each_call_of_the_outside_fails_in_turn(rt: HostRuntime) -> Result<(), Fail> {
     let alloc = rt.alloc();
-    let mut words = Vec::new(alloc);
-    for word in ["call", "m.wasm", "0aFf", "7"] {
-        words.push(String::from_str(alloc, word)?)?;
+    let words = owned(alloc, &["call", "m.wasm", "", "10"])?;
+    let rows: [(&[u32], &[u32], u8, &str); 6] = [
+        (&[0], &[], 4, "read fault\n"),
+        (&[1], &[], 4, "read fault\n"),
+        (&[2], &[], 4, "read fault\n"),
+        (&[3], &[1], 0, DONE),
+        (&[], &[0], 5, ""),
+        (&[0], &[0], 5, ""),
+    ];
+    for (reads, writes, status, line) in rows {
+        let mut shelf = FailShelf::new(shelf(alloc)?, Vec::from_slice(alloc, reads)?);
+        let inner = MemSink::with_room(alloc, 100)?;
+        let mut out = FailSink::new(inner, Vec::from_slice(alloc, writes)?);
+        assert_eq!(rt;
+            answer(alloc, &words, &mut shelf, &mut out),
+            status,
+            "{reads:?}"
+        );
+        assert_eq!(rt; out.inner().bytes(), line.as_bytes(), "{reads:?}");
     }
-    let Command::Call { file, input, fuel } = read_words(alloc, &words)?;
-    assert_eq!(rt; file, "m.wasm");
-    assert_eq!(rt; input.as_slice(), [0x0A, 0xFF].as_slice());
-    assert_eq!(rt; input.into_vec().len(), 2);
-    assert_eq!(rt; fuel, 7);
     Ok(())
+}
+
+/// The words as the program gets them.
+pub fn owned(alloc: Global, words: &[&str]) -> Result<Vec<String>, AllocError> {
+    let mut owned = Vec::new(alloc);
+    for word in words {
+        owned.push(String::from_str(alloc, word)?)?;
+    }
+    Ok(owned)
 }

@@ -1,8 +1,8 @@
 //! The words of the program.
 
-ghost use Rattle.std.specs.Prelude.{◌≡◌, ◌≢◌, [], ◌∷◌, codes, IfOk, IsErrOf};
+ghost use Rattle.std.specs.Prelude.{◌≡◌, ◌≢◌, [], ◌∷◌, IfOk, IsErrOf};
 ghost use Rattle.faaslet_meaning.specs.Productions.{NoSpelling};
-ghost use Rattle.faaslet_meaning.specs.Words.{IsInput, IsFuel, CommandOf};
+ghost use Rattle.faaslet_meaning.specs.Words.{IsInput, IsNumber, CommandOf};
 ghost use Rattle.faasm_top.specs.Commands.{texts, command_of};
 ghost use Rattle.faasm_top.specs.declared.words.WordsFault.TheVariants as fault;
 ghost use Rattle.hex.specs.declared.error.FromHexError.TheVariants as hex_fault;
@@ -15,12 +15,29 @@ use thiserror::Error;
 /// A command with its values.
 #[derive(Debug, Drop, PartialEq)]
 pub enum Command<'w> {
+    /// Decode and validate the module in a file.
+    Check {
+        file: &'w str,
+    },
     /// One call of the module in a file, with an input of at most 65,536 bytes and fuel from 1 to
     /// 2^40.
     Call {
         file: &'w str,
         input: Bytes,
         fuel: u64,
+    },
+    /// The session in a file, in the order of a seed.
+    Trace {
+        file: &'w str,
+        seed: u64,
+    },
+    /// The session in a file, with threads.
+    Run {
+        file: &'w str,
+    },
+    /// A generated session of 1 to 1,024 requests.
+    Load {
+        count: u32,
     },
 }
 
@@ -57,6 +74,8 @@ const MOST_INPUT: usize = 65_536;
 
 const MOST_FUEL: u64 = 1_099_511_627_776;
 
+const MOST_REQUESTS: u64 = 1_024;
+
 /// The input that a word spells in hexadecimal digits.
 fn read_input(alloc: Global, word: &str) -> Result<Bytes, WordsFault>
     ensures found { IfOk result (λ input. IsInput input word.now) }
@@ -69,39 +88,83 @@ fn read_input(alloc: Global, word: &str) -> Result<Bytes, WordsFault>
     Ok(Items::of(hex::decode(alloc, word)?))
 }
 
-/// The fuel that a word spells in decimal digits.
-fn read_fuel(alloc: Global, word: &str) -> Result<u64, WordsFault>
-    ensures found { IfOk result (λ fuel. IsFuel fuel word.now) }
-    ensures usage { IsErrOf result WordsFault.Usage → NoSpelling IsFuel word.now }
+/// The number from `least` to `most` that a word spells in decimal digits.
+fn read_number(alloc: Global, word: &str, least: u64, most: u64) -> Result<u64, WordsFault>
+    ensures found { IfOk result (λ n. IsNumber least most n word.now) }
+    ensures usage { IsErrOf result WordsFault.Usage → NoSpelling (IsNumber least most) word.now }
 {
-    let Ok(fuel) = word.parse::<u64>() else {
+    let Ok(number) = word.parse::<u64>() else {
         return Err(WordsFault::Usage);
     };
-    if fuel < 1 || fuel > MOST_FUEL {
+    if number < least || number > most {
         return Err(WordsFault::Usage);
     }
     // A sign or a leading zero is no other spelling.
-    if fuel.to_string(alloc)?.as_str() == word {
-        Ok(fuel)
+    if number.to_string(alloc)?.as_str() == word {
+        Ok(number)
     } else {
         Err(WordsFault::Usage)
     }
 }
 
-/// The call of the three words behind `call`.
-fn read_call<'w>(
+/// The command of two words: `check`, `run` or `load`.
+fn read_two<'w>(alloc: Global, name: &str, value: &'w str) -> Result<Command<'w>, WordsFault>
+    ensures found { IfOk result (λ c. CommandOf (command_of c) (name.now ∷ value.now ∷ [])) }
+    ensures usage { IsErrOf result WordsFault.Usage
+        → NoSpelling CommandOf (name.now ∷ value.now ∷ []) }
+{
+    if name == "check" {
+        return Ok(Command::Check { file: value });
+    }
+    if name == "run" {
+        return Ok(Command::Run { file: value });
+    }
+    if name != "load" {
+        return Err(WordsFault::Usage);
+    }
+    let count = read_number(alloc, value, 1, MOST_REQUESTS)?;
+    Ok(Command::Load {
+        count: count as u32,
+    })
+}
+
+/// The command of three words: `trace`.
+fn read_three<'w>(
     alloc: Global,
+    name: &str,
+    file: &'w str,
+    seed_word: &str,
+) -> Result<Command<'w>, WordsFault>
+    ensures found { IfOk result (λ c. CommandOf (command_of c)
+        (name.now ∷ file.now ∷ seed_word.now ∷ [])) }
+    ensures usage { IsErrOf result WordsFault.Usage → NoSpelling CommandOf
+        (name.now ∷ file.now ∷ seed_word.now ∷ []) }
+{
+    if name != "trace" {
+        return Err(WordsFault::Usage);
+    }
+    let seed = read_number(alloc, seed_word, 0, u64::MAX)?;
+    Ok(Command::Trace { file, seed })
+}
+
+/// The command of four words: `call`.
+fn read_four<'w>(
+    alloc: Global,
+    name: &str,
     file: &'w str,
     input_word: &str,
     fuel_word: &str,
 ) -> Result<Command<'w>, WordsFault>
     ensures found { IfOk result (λ c. CommandOf (command_of c)
-        (codes "call" ∷ file.now ∷ input_word.now ∷ fuel_word.now ∷ [])) }
+        (name.now ∷ file.now ∷ input_word.now ∷ fuel_word.now ∷ [])) }
     ensures usage { IsErrOf result WordsFault.Usage → NoSpelling CommandOf
-        (codes "call" ∷ file.now ∷ input_word.now ∷ fuel_word.now ∷ []) }
+        (name.now ∷ file.now ∷ input_word.now ∷ fuel_word.now ∷ []) }
 {
+    if name != "call" {
+        return Err(WordsFault::Usage);
+    }
     let input = read_input(alloc, input_word)?;
-    let fuel = read_fuel(alloc, fuel_word)?;
+    let fuel = read_number(alloc, fuel_word, 1, MOST_FUEL)?;
     Ok(Command::Call { file, input, fuel })
 }
 
@@ -110,11 +173,16 @@ pub fn read_words(alloc: Global, words: &[String]) -> Result<Command<'_>, WordsF
     ensures found { IfOk result (λ c. CommandOf (command_of c) (texts words.now)) }
     ensures usage { IsErrOf result WordsFault.Usage → NoSpelling CommandOf (texts words.now) }
 {
-    let [command, file, input, fuel] = words else {
-        return Err(WordsFault::Usage);
-    };
-    if command.as_str() != "call" {
-        return Err(WordsFault::Usage);
+    match words {
+        [name, value] => read_two(alloc, name.as_str(), value.as_str()),
+        [name, file, seed] => read_three(alloc, name.as_str(), file.as_str(), seed.as_str()),
+        [name, file, input, fuel] => read_four(
+            alloc,
+            name.as_str(),
+            file.as_str(),
+            input.as_str(),
+            fuel.as_str(),
+        ),
+        _ => Err(WordsFault::Usage),
     }
-    read_call(alloc, file.as_str(), input.as_str(), fuel.as_str())
 }

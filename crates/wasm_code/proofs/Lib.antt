@@ -1,5 +1,5 @@
 pub mod Ends
 pub mod Leb
-pub mod NumberReaders
-pub mod Readers
+pub mod Loop
 pub mod Signed
+pub mod Stack

@@ -4,8 +4,9 @@ use Rattle.std.specs.Prelude.{◌+ℤ◌, ◌-ℤ◌, ◌*ℤ◌, ◌≤ℤ◌, 
 use Rattle.std.proofs.lemmas.Int.{ints}
 use Rattle.std.proofs.Math.Pow.{pow_mono}
 use Rattle.std.proofs.lemmas.Bool.{le-ltb, lt-ltb}
-use Rattle.wasm_code.specs.Reading.{IsWithin, signed_at}
-use Rattle.wasm_code.proofs.Readers.{at_value}
+use Rattle.faaslet_meaning.specs.Reading.{signed_at}
+use Rattle.wasm_code.specs.Reading.{IsWithin}
+use Rattle.faaslet_meaning.proofs.Readers.{at_value}
 use Rattle.wasm_code.proofs.Leb.{pow_seven}
 
 -- what a number of seven bits fewer leaves room for

@@ -1,10 +1,10 @@
 //! Numbers in LEB128. W3C WebAssembly Core Specification 1.0, section 5.2.2.
 
-ghost use Rattle.std.specs.Prelude.{◌≡◌, ℕ, ◌^◌, ◌<◌, ◌≤◌, ◌∷◌, [], IfOk, OnErr, MatchResult, IsTrue, ◌↔◌};
-ghost use Rattle.faaslet_meaning.specs.Productions.{Front, Prefix, NoFront, IsDetermined};
-ghost use Rattle.faaslet_meaning.specs.Numbers.{IsUnsigned, IsSigned, IsU32, IsS32};
+ghost use Rattle.std.specs.Prelude.{◌≡◌, ◌^◌, ◌<◌, ◌≤◌, ◌∷◌, [], IfOk, OnErr, MatchResult, IsTrue, ◌↔◌};
+ghost use Rattle.faaslet_meaning.specs.Productions.{Front, Prefix, NoFront};
+ghost use Rattle.faaslet_meaning.specs.Numbers.{IsU32, IsS32, IsS64};
 ghost use Rattle.wasm_code.specs.Reading.{IsWithin, Gives};
-ghost use Rattle.wasm_code.specs.Reading as reading;
+ghost use Rattle.faaslet_meaning.specs.Reading as reading;
 
 use thiserror::Error;
 
@@ -37,7 +37,7 @@ fn fits(b: u8, bits: u32) -> bool
 }
 
 /// The number of so many bits at the front, and the bytes behind it.
-#[tactic(auto, unfolding(crate::specs::Reading::unsigned_at))]
+#[tactic(auto, unfolding(faaslet_meaning::specs::Reading::unsigned_at))]
 fn unsigned_at(bytes: &[u8], bits: u32) -> Result<(u64, &[u8]), Malformed>
     requires { bits ≤ 64 }
     ensures exact { Gives (λ x. (x.0, x.1.now)) result (reading.unsigned_at bits bytes.now) }
@@ -59,7 +59,7 @@ fn unsigned_at(bytes: &[u8], bits: u32) -> Result<(u64, &[u8]), Malformed>
 }
 
 /// The signed number of so many bits at the front, and the bytes behind it.
-#[tactic(auto, unfolding(crate::specs::Reading::signed_at))]
+#[tactic(auto, unfolding(faaslet_meaning::specs::Reading::signed_at))]
 fn signed_at(bytes: &[u8], bits: u32) -> Result<(i64, &[u8]), Malformed>
     requires { (0 < bits) × (bits ≤ 64) }
     ensures exact { Gives (λ x. (x.0, x.1.now)) result (reading.signed_at bits bytes.now) }
@@ -90,6 +90,7 @@ fn signed_at(bytes: &[u8], bits: u32) -> Result<(i64, &[u8]), Malformed>
 /// The u32 at the front, and the bytes behind it.
 #[tactic(auto, using(crate::proofs::Ends::u32_steps))]
 pub fn u32_at(bytes: &[u8]) -> Result<(u32, &[u8]), Malformed>
+    ensures exact { Gives (λ x. (x.0, x.1.now)) result (reading.unsigned_at 32 bytes.now) }
     ensures found { IfOk result (λ x. Front IsU32 bytes.now x.0 x.1.now) }
     ensures none { OnErr result (NoFront IsU32 bytes.now) }
 {
@@ -100,11 +101,22 @@ pub fn u32_at(bytes: &[u8]) -> Result<(u32, &[u8]), Malformed>
 /// The s32 at the front, and the bytes behind it.
 #[tactic(auto, using(crate::proofs::Ends::s32_steps))]
 pub fn s32_at(bytes: &[u8]) -> Result<(i32, &[u8]), Malformed>
+    ensures exact { Gives (λ x. (x.0, x.1.now)) result (reading.signed_at 32 bytes.now) }
     ensures found { IfOk result (λ x. Front IsS32 bytes.now x.0 x.1.now) }
     ensures none { OnErr result (NoFront IsS32 bytes.now) }
 {
     let (z, rest) = signed_at(bytes, 32)?;
     Ok((z as i32, rest))
+}
+
+/// The s64 at the front, and the bytes behind it.
+#[tactic(auto, using(crate::proofs::Ends::s64_steps))]
+pub fn s64_at(bytes: &[u8]) -> Result<(i64, &[u8]), Malformed>
+    ensures exact { Gives (λ x. (x.0, x.1.now)) result (reading.signed_at 64 bytes.now) }
+    ensures found { IfOk result (λ x. Front IsS64 bytes.now x.0 x.1.now) }
+    ensures none { OnErr result (NoFront IsS64 bytes.now) }
+{
+    signed_at(bytes, 64)
 }
 
 /// The u32 at the front, and how many bytes spell it.
@@ -127,9 +139,12 @@ pub fn read_s32(bytes: &[u8]) -> Result<(i32, usize), Malformed>
     Ok((z, bytes.len() - rest.len()))
 }
 
-/// No spelling of a number begins another, and each spells one number. The body is empty: what counts
-/// is what it ensures.
-pub fn one_number()
-    ensures unsigned { (bits : ℕ) → IsDetermined (IsUnsigned bits) }
-    ensures signed { (bits : ℕ) → IsDetermined (IsSigned bits) }
-{}
+/// The s64 at the front, and how many bytes spell it.
+#[tactic(auto, using(crate::proofs::Ends::prefix, crate::proofs::Ends::front_len))]
+pub fn read_s64(bytes: &[u8]) -> Result<(i64, usize), Malformed>
+    ensures found { IfOk result (λ x. Prefix IsS64 bytes.now x.0 x.1) }
+    ensures none { OnErr result (NoFront IsS64 bytes.now) }
+{
+    let (z, rest) = s64_at(bytes)?;
+    Ok((z, bytes.len() - rest.len()))
+}

@@ -7,10 +7,10 @@ use Rattle.std.proofs.lemmas.List.{take-append-drop, take_at, drop_at, length-ap
 use Rattle.faaslet_meaning.specs.Productions.{Byte, Nothing, Exactly, ◌⨾◌, Front}
 use Rattle.faaslet_meaning.specs.Numbers.{IsU32}
 use Rattle.faaslet_meaning.specs.Grammar.{IsSized}
-use Rattle.wasm_code.specs.Reading.{Read, unsigned_at}
-use Rattle.wasm_code.proofs.Readers.{Reads, either, some_is, mapped_some}
-use Rattle.wasm_code.proofs.NumberReaders.{unsigned_reads}
-use Rattle.wasm_decode.specs.Reading.{At, ◌>>=◌, nothing, ◌⨟◌, before, all, byte, text, number, blob_at, sized}
+use Rattle.faaslet_meaning.specs.Reading.{Read, unsigned_at}
+use Rattle.faaslet_meaning.proofs.Readers.{Reads, either, some_is, mapped_some}
+use Rattle.faaslet_meaning.proofs.NumberReaders.{unsigned_reads}
+use Rattle.wasm_decode.specs.Reading.{At, ◌>>=◌, nothing, ◌⨟◌, before, all, byte, text, number, blob_at, sized_all, sized}
 
 -- a reader of something fixed reads this language
 abbrev pub Passes : (List ℕ → Type 0) → At Unit → Type 0
@@ -158,32 +158,51 @@ blob_again size content rest p =
     let long : length content ≤ length (content ++ rest) = omega (arith, length-append content rest) in
     rw ((unsigned_reads 32).again (length content) size (content ++ rest) p, le-ltb _ _ long, take_at content rest (length content) refl, drop_at content rest (length content) refl) refl
 
--- behind a size, what is read in all of the bytes
-pub sized_reads : {A B : Type 0} (P : A → List ℕ → Type 0) (g : B → A) {at : At B} → Reads (λ y. P (g y)) at → Reads (λ y. IsSized P (g y)) (sized at)
-sized_reads {A = A} {B = B} P g {at = at} p = record { takes = takes; again = again }
+-- what is read of all of the bytes is spelled by all of them, and the other way round
+pub record ReadsAll {A : Type 0} (P : A → List ℕ → Type 0) (of : List ℕ → Option A) : Type 0 where
+  pub takes : (bytes : List ℕ) (x : A) → of bytes ≡ Some x → P x bytes
+  pub again : (x : A) (bytes : List ℕ) → P x bytes → of bytes ≡ Some x
+
+pub all_reads : {A : Type 0} {P : A → List ℕ → Type 0} {at : At A} → Reads P at → ReadsAll P (λ bytes. at bytes >>= λ y. all y.0 y.1)
+all_reads {A = A} {P = P} {at = at} p = record { takes = takes; again = again }
   where
-    takes : (bytes : List ℕ) (y : B) (rest : List ℕ) → sized at bytes ≡ Some (y, rest) → Front (λ z. IsSized P (g z)) bytes y rest
+    takes : (bytes : List ℕ) (x : A) → (at bytes >>= λ y. all y.0 y.1) ≡ Some x → P x bytes
+    takes bytes x e =
+        let m = bind_some (at bytes) _ x e in
+        let end_ = all_some m.0.0 x m.0.1 m.2 in
+        let f = p.takes bytes m.0.0 m.0.1 m.1 in
+        let parts : bytes ≡ f.text = f.parts ∙ ap (λ (t : List ℕ). f.text ++ t) end_.0 ∙ append-nil f.text in
+        subst (λ y. P y bytes) end_.1 (subst (P m.0.0) (sym parts) f.spells)
+
+    again : (x : A) (bytes : List ℕ) → P x bytes → (at bytes >>= λ y. all y.0 y.1) ≡ Some x
+    again x bytes q = let e : at bytes ≡ Some (x, []) = ap at (sym (append-nil bytes)) ∙ p.again x bytes [] q in rw e refl
+
+-- behind a size, what is read of all of the bytes
+pub sized_all_reads : {A B : Type 0} (P : A → List ℕ → Type 0) (g : B → A) {of : List ℕ → Option B} → ReadsAll (λ y. P (g y)) of → Reads (λ y. IsSized P (g y)) (sized_all of)
+sized_all_reads {A = A} {B = B} P g {of = of} p = record { takes = takes; again = again }
+  where
+    takes : (bytes : List ℕ) (y : B) (rest : List ℕ) → sized_all of bytes ≡ Some (y, rest) → Front (λ z. IsSized P (g z)) bytes y rest
     takes bytes y rest e =
         let b = bind_some (blob_at bytes) _ (y, rest) e in
-        let m = bind_some (at b.0.0) _ (y, rest) b.2 in
-        let a = all_some (m.0.0, b.0.1) (y, rest) m.0.1 m.2 in
+        let m = bind_some (of b.0.0) _ (y, rest) b.2 in
+        let a = some_is (m.0, b.0.1) (y, rest) m.2 in
         let blob = blob_takes bytes b.0 b.1 in
-        let in_ = p.takes b.0.0 m.0.0 m.0.1 m.1 in
-        let content : b.0.0 ≡ in_.text = in_.parts ∙ ap (λ (t : List ℕ). in_.text ++ t) a.0 ∙ append-nil in_.text in
-        let value : m.0.0 ≡ y = ap (λ (t : B × List ℕ). t.0) a.1 in
-        let after : b.0.1 ≡ rest = ap (λ (t : B × List ℕ). t.1) a.1 in
+        let value : m.0 ≡ y = ap (λ (t : B × List ℕ). t.0) a in
+        let after : b.0.1 ≡ rest = ap (λ (t : B × List ℕ). t.1) a in
         record {
           text = blob.size ++ b.0.0;
           parts = blob.parts ∙ ap (λ (t : List ℕ). blob.size ++ (b.0.0 ++ t)) after ∙ sym (append_assoc blob.size b.0.0 rest);
           spells = record {
             content = b.0.0;
-            sized = record { front = blob.size; back = b.0.0; parts = refl; first = blob.spells; second = refl };
-            spells = subst (λ z. P (g z) b.0.0) value (subst (P (g m.0.0)) (sym content) in_.spells);
+            blob = record { front = blob.size; back = b.0.0; parts = refl; first = blob.spells; second = refl };
+            means = subst (λ z. P (g z) b.0.0) value (p.takes b.0.0 m.0 m.1);
           };
         }
 
-    again : (y : B) (a rest : List ℕ) → IsSized P (g y) a → sized at (a ++ rest) ≡ Some (y, rest)
+    again : (y : B) (a rest : List ℕ) → IsSized P (g y) a → sized_all of (a ++ rest) ≡ Some (y, rest)
     again y a rest s =
-        let parts : a ++ rest ≡ s.sized.front ++ (s.content ++ rest) = split a rest s.sized ∙ ap (λ (t : List ℕ). s.sized.front ++ (t ++ rest)) s.sized.second in
-        let whole : at s.content ≡ Some (y, []) = ap at (sym (append-nil s.content)) ∙ p.again y s.content [] s.spells in
-        rw (parts, blob_again s.sized.front s.content rest s.sized.first, whole) refl
+        let parts : a ++ rest ≡ s.blob.front ++ (s.content ++ rest) = split a rest s.blob ∙ ap (λ (t : List ℕ). s.blob.front ++ (t ++ rest)) s.blob.second in
+        rw (parts, blob_again s.blob.front s.content rest s.blob.first, p.again y s.content s.means) refl
+
+pub sized_reads : {A B : Type 0} (P : A → List ℕ → Type 0) (g : B → A) {at : At B} → Reads (λ y. P (g y)) at → Reads (λ y. IsSized P (g y)) (sized at)
+sized_reads P g p = sized_all_reads P g (all_reads p)

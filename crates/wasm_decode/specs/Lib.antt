@@ -1,1 +1,2 @@
+pub mod Minimal
 pub mod Reading

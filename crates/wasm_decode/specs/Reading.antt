@@ -1,8 +1,10 @@
 -- Reading a minimal module from a list of bytes. What stands in a fixed place is read as nothing, `tt`.
 -- This project's own; that this is what the grammar spells is proved in `proofs/MinimalLaws`.
-use Rattle.std.specs.Prelude.{ℕ, ℤ, List, [], ◌∷◌, Option, Some, None, length, take, drop, nat_lt, bytes_eq, codes, ◌==◌, if◌then◌else◌}
+use Rattle.std.specs.Prelude.{ℕ, List, [], ◌∷◌, Option, Some, None, length, take, drop, nat_lt, bytes_eq, codes, ◌==◌, if◌then◌else◌}
+use Rattle.wasm_decode.specs.declared.instr.MinimalInstr.{MinimalInstr}
+use Rattle.wasm_decode.specs.declared.instr.MinimalInstr.TheVariants.{Const, Add}
 use Rattle.faaslet_meaning.specs.Grammar.{header}
-use Rattle.wasm_code.specs.Reading.{Read, mapped, unsigned_at, signed_at}
+use Rattle.faaslet_meaning.specs.Reading.{Read, mapped, unsigned_at, signed_at}
 
 -- a reader
 abbrev pub At : Type 0 → Type 0
@@ -49,8 +51,11 @@ unfoldable pub blob_at : At (List ℕ)
 blob_at bytes = unsigned_at 32 bytes >>= λ n. if nat_lt (length n.1) n.0 then None else Some (take n.0 n.1, drop n.0 n.1)
 
 -- a size and so many bytes, in all of which something is read
+abbrev pub sized_all : {A : Type 0} → (List ℕ → Option A) → At A
+sized_all of bytes = blob_at bytes >>= λ x. of x.0 >>= λ y. Some (y, x.1)
+
 abbrev pub sized : {A : Type 0} → At A → At A
-sized at bytes = blob_at bytes >>= λ x. at x.0 >>= λ y. all (y.0, x.1) y.1
+sized at = sized_all (λ bytes. at bytes >>= λ y. all y.0 y.1)
 
 -- one type, from nothing to an i32
 unfoldable pub types : At Unit
@@ -64,22 +69,28 @@ functions = number 1 ⨟ number 0 ⨟ nothing
 unfoldable pub exports : At Unit
 exports = number 1 ⨟ before (sized (text (codes "main")) ⨟ byte 0x00 ⨟ number 0) nothing
 
--- no locals, and one constant
-unfoldable pub entry : At ℤ
-entry = (number 0 ⨟ nothing) ⨟ before (byte 0x41 ⨟ signed_at 32) (byte 0x0B)
+-- no locals, and the bytes of an expression
+abbrev pub entry : List ℕ → Option (List ℕ)
+entry bytes = number 0 bytes >>= λ x. Some x.1
 
 -- one body
-unfoldable pub bodies : At ℤ
-bodies = number 1 ⨟ before (sized entry) nothing
+unfoldable pub bodies : At (List ℕ)
+bodies = number 1 ⨟ before (sized_all entry) nothing
 
 -- a section with this id
 abbrev pub section : {A : Type 0} → ℕ → At A → At A
 section id at = byte id ⨟ sized at
 
--- the header and the four sections
-unfoldable pub sections : At ℤ
+-- the header and the four sections: the bytes of the expression
+unfoldable pub sections : At (List ℕ)
 sections = text header ⨟ section 1 types ⨟ section 3 functions ⨟ section 7 exports ⨟ section 10 bodies
 
 -- and no more
-unfoldable pub whole_module : List ℕ → Option ℤ
+unfoldable pub whole_module : List ℕ → Option (List ℕ)
 whole_module bytes = sections bytes >>= λ x. all x.0 x.1
+
+-- an instruction
+unfoldable pub instr_at : At MinimalInstr
+instr_at [] = None
+instr_at (b ∷ rest) =
+    if b == 0x41 then mapped (λ n. Const n) (signed_at 32 rest) else if b == 0x6A then Some (Add, rest) else None

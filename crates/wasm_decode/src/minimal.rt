@@ -1,14 +1,17 @@
 //! Minimal modules.
 
-ghost use Rattle.std.specs.Prelude.{◌≡◌, ℕ, ℤ, List, codes, IfSome, IfNone};
+ghost use Rattle.std.specs.Prelude.{◌≡◌, ℕ, List, codes, IfOk, IfSome, IfNone};
 ghost use Rattle.faaslet_meaning.specs.Productions.{NoSpelling};
-ghost use Rattle.faaslet_meaning.specs.Minimal.{IsMinimal};
 ghost use Rattle.wasm_code.specs.Reading.{Gives};
+ghost use Rattle.wasm_decode.specs.declared.instr.MinimalInstr.{MinimalInstr};
+ghost use Rattle.wasm_decode.specs.Minimal.{IsMinimal};
 ghost use Rattle.wasm_decode.specs.Reading.{◌⨟◌};
 ghost use Rattle.wasm_decode.specs.Reading as reading;
 
+use crate::instr::{MinimalCode, instrs_of};
 use crate::pass::{blob_at, pass_byte, pass_end, pass_number, pass_text};
-use wasm_code::{Malformed, s32_at};
+use std::alloc::{AllocError, Global};
+use wasm_code::Malformed;
 
 const MAIN: &[u8; 4] = b"main";
 
@@ -64,28 +67,15 @@ fn pass_exports(content: &[u8]) -> Result<&[u8], Malformed>
     pass_number(rest, 0)
 }
 
-/// The constant of a body without locals, and the bytes behind the body.
-#[tactic(auto, unfolding(crate::specs::Reading::entry), using(wasm_code::proofs::Ends::s32_again))]
-fn entry_at(bytes: &[u8]) -> Result<(i32, &[u8]), Malformed>
-    ensures { Gives (λ x. (x.0, x.1.now)) result (reading.entry bytes.now) }
-{
-    let rest = pass_number(bytes, 0)?;
-    let rest = pass_byte(rest, 0x41)?;
-    let (constant, rest) = s32_at(rest)?;
-    let rest = pass_byte(rest, 0x0B)?;
-    Ok((constant, rest))
-}
-
-/// The constant of the one body, and the bytes behind it.
+/// The expression of the one body, without locals, and the bytes behind it.
 #[tactic(auto, unfolding(crate::specs::Reading::bodies))]
-fn bodies_at(content: &[u8]) -> Result<(i32, &[u8]), Malformed>
-    ensures { Gives (λ x. (x.0, x.1.now)) result (reading.bodies content.now) }
+fn bodies_at(content: &[u8]) -> Result<(&[u8], &[u8]), Malformed>
+    ensures { Gives (λ x. (x.0.now, x.1.now)) result (reading.bodies content.now) }
 {
     let rest = pass_number(content, 1)?;
     let (body, rest) = blob_at(rest)?;
-    let (constant, more) = entry_at(body)?;
-    pass_end(more)?;
-    Ok((constant, rest))
+    let expression = pass_number(body, 0)?;
+    Ok((expression, rest))
 }
 
 /// The bytes behind the section of types.
@@ -116,20 +106,21 @@ fn pass_export_section(bytes: &[u8]) -> Result<&[u8], Malformed>
     Ok(rest)
 }
 
-/// The constant of the section of code, and the bytes behind the section.
-fn code_at(bytes: &[u8]) -> Result<(i32, &[u8]), Malformed>
-    ensures { Gives (λ x. (x.0, x.1.now)) result (reading.section 10 reading.bodies bytes.now) }
+/// The expression in the section of code, and the bytes behind the section.
+fn code_at(bytes: &[u8]) -> Result<(&[u8], &[u8]), Malformed>
+    ensures { Gives (λ x. (x.0.now, x.1.now)) result
+        (reading.section 10 reading.bodies bytes.now) }
 {
     let (content, rest) = section_at(bytes, 10)?;
-    let (constant, more) = bodies_at(content)?;
+    let (expression, more) = bodies_at(content)?;
     pass_end(more)?;
-    Ok((constant, rest))
+    Ok((expression, rest))
 }
 
-/// The constant, and the bytes behind the header and the four sections.
+/// The expression, and the bytes behind the header and the four sections.
 #[tactic(auto, unfolding(crate::specs::Reading::sections))]
-fn sections_at(bytes: &[u8]) -> Result<(i32, &[u8]), Malformed>
-    ensures { Gives (λ x. (x.0, x.1.now)) result (reading.sections bytes.now) }
+fn sections_at(bytes: &[u8]) -> Result<(&[u8], &[u8]), Malformed>
+    ensures { Gives (λ x. (x.0.now, x.1.now)) result (reading.sections bytes.now) }
 {
     let rest = pass_text(bytes, &HEADER)?;
     let rest = pass_type_section(rest)?;
@@ -138,26 +129,30 @@ fn sections_at(bytes: &[u8]) -> Result<(i32, &[u8]), Malformed>
     code_at(rest)
 }
 
-/// The constant of a minimal module.
+/// The expression in the body of a minimal module.
 #[tactic(auto, unfolding(crate::specs::Reading::whole_module))]
-fn module_at(bytes: &[u8]) -> Result<i32, Malformed>
-    ensures { Gives (λ n. n) result (reading.whole_module bytes.now) }
+fn expression_of(bytes: &[u8]) -> Result<&[u8], Malformed>
+    ensures { Gives (λ e. e.now) result (reading.whole_module bytes.now) }
 {
-    let (constant, rest) = sections_at(bytes)?;
+    let (expression, rest) = sections_at(bytes)?;
     pass_end(rest)?;
-    Ok(constant)
+    Ok(expression)
 }
 
-/// The constant that the `main` of a minimal module returns, where the bytes spell one.
+/// The instructions of the minimal module that the bytes spell, where they spell one.
 #[tactic(auto, using(crate::proofs::MinimalLaws::minimal))]
-pub fn read_minimal(bytes: &[u8]) -> Option<i32>
-    ensures found { IfSome result (λ n. IsMinimal n bytes.now) }
-    ensures none { IfNone result (NoSpelling IsMinimal bytes.now) }
+pub fn read_minimal(alloc: Global, bytes: &[u8]) -> Result<Option<MinimalCode>, AllocError>
+    ensures found { IfOk result (λ o. IfSome o (λ code. IsMinimal code bytes.now)) }
+    ensures none { IfOk result (λ o. IfNone o (NoSpelling IsMinimal bytes.now)) }
 {
-    module_at(bytes).ok()
+    match expression_of(bytes) {
+        Ok(expression) => instrs_of(alloc, expression),
+        Err(Malformed) => Ok(None),
+    }
 }
 
 /// Bytes spell one minimal module at most. The body is empty: what counts is what it ensures.
 pub fn one_minimal()
-    ensures { (m n : ℤ) (bytes : List ℕ) → IsMinimal m bytes → IsMinimal n bytes → m ≡ n }
+    ensures { (c d : List MinimalInstr) (bytes : List ℕ)
+        → IsMinimal c bytes → IsMinimal d bytes → c ≡ d }
 {}

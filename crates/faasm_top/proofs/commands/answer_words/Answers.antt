@@ -1,5 +1,16 @@
-use Rattle.faasm_top.proofs.Dues.{called}
+use Rattle.std.specs.Prelude.{IsTrue}
+use Rattle.faasm_top.specs.Commands.{texts, command_of}
+use Rattle.faasm_top.proofs.Dues.{words_due, call_open, usage_open, later_from}
 use Rattle.faasm_top.proofs.commands.answer_words.Goals as goal
 
+pub returns-in-Err-Usage-clause-left_open : goal.returns-in-Err-Usage-clause-left_open
+returns-in-Err-Usage-clause-left_open g c = usage_open (texts c.args.words.now) (IsTrue (g.F.Shelf.is_open c.args.shelf.now)) c.usage.result (c.read_words.ensures.usage cc)
+
 pub returns-clause-due : goal.returns-clause-due
-returns-clause-due g c = called c.in-Ok.command _ _ _ _ _ c.answer_call.result c.in-Ok.ensures.found c.file_of.ensures c.answer_call.ensures.due
+returns-clause-due g c = words_due (command_of c.in-Ok.command) (texts c.args.words.now) _ _ _ c.answer_command.result c.in-Ok.ensures.found c.answer_command.ensures.due
+
+pub returns-clause-untouched : goal.returns-clause-untouched
+returns-clause-untouched g c = λ none. c.answer_command.ensures.untouched (later_from (texts c.args.words.now) (command_of c.in-Ok.command) none c.in-Ok.ensures.found)
+
+pub returns-clause-left_open : goal.returns-clause-left_open
+returns-clause-left_open g c = call_open (command_of c.in-Ok.command) (texts c.args.words.now) (IsTrue (g.F.Shelf.is_open c.answer_command.new.shelf)) c.answer_command.result c.in-Ok.ensures.found c.answer_command.ensures.left_open

@@ -1,0 +1,5 @@
+pub mod Digits
+pub mod Shifts
+pub mod Rows
+pub mod Ranges
+pub mod Classes
