@@ -30,24 +30,24 @@ one_number low high m n v w few same p q =
     decimal_injective m n (omega (arith, p.at_most)) (omega (arith, q.at_most)) digits
 
 -- words that are the same are so one by one
-pub same_two : (a b c d : List ℕ) → a ∷ b ∷ [] ≡ c ∷ d ∷ [] → (a ≡ c) × (b ≡ d)
+same_two : (a b c d : List ℕ) → a ∷ b ∷ [] ≡ c ∷ d ∷ [] → (a ≡ c) × (b ≡ d)
 same_two a b c d same = (cc, cc)
 
-pub same_three : (a b c d e f : List ℕ) → a ∷ b ∷ c ∷ [] ≡ d ∷ e ∷ f ∷ [] → (a ≡ d) × (b ≡ e) × (c ≡ f)
+same_three : (a b c d e f : List ℕ) → a ∷ b ∷ c ∷ [] ≡ d ∷ e ∷ f ∷ [] → (a ≡ d) × (b ≡ e) × (c ≡ f)
 same_three a b c d e f same = (cc, cc, cc)
 
-pub same_four : (a b c d e f g h : List ℕ) → a ∷ b ∷ c ∷ d ∷ [] ≡ e ∷ f ∷ g ∷ h ∷ [] → (a ≡ e) × (b ≡ f) × (c ≡ g) × (d ≡ h)
+same_four : (a b c d e f g h : List ℕ) → a ∷ b ∷ c ∷ d ∷ [] ≡ e ∷ f ∷ g ∷ h ∷ [] → (a ≡ e) × (b ≡ f) × (c ≡ g) × (d ≡ h)
 same_four a b c d e f g h same = (cc, cc, cc, cc)
 
 -- how many words a command has
-abbrev pub count_of : Command → ℕ
+abbrev count_of : Command → ℕ
 count_of (check file) = 2
 count_of (call file input fuel) = 4
 count_of (trace file seed) = 3
 count_of (run file) = 2
 count_of (load count) = 2
 
-pub counted : (words : List (List ℕ)) (c : Command) → CommandOf c words → length words ≡ count_of c
+counted : (words : List (List ℕ)) (c : Command) → CommandOf c words → length words ≡ count_of c
 counted words (check file) p = ap length p
 counted words (call file input fuel) p = ap length p.words_are
 counted words (trace file seed) p = ap length p.words_are

@@ -1,4 +1,4 @@
--- What is printed of a call. This project's own.
+-- What is printed of a module and of a call. This project's own.
 use Rattle.std.specs.Prelude.{ℕ, ◌+◌, ◌/◌, ◌%◌, List, [], ◌∷◌, ◌++◌, codes, nat_lt, if◌then◌else◌}
 use Rattle.std.specs.Fmt.{decimal, signed_decimal}
 use Rattle.std.specs.List.{flat_map}
@@ -8,6 +8,8 @@ use Rattle.faaslet_meaning.specs.declared.outcome.Broken.{Broken}
 use Rattle.faaslet_meaning.specs.declared.outcome.Broken.TheVariants as broken
 use Rattle.faaslet_meaning.specs.declared.outcome.Outcome.{Outcome}
 use Rattle.faaslet_meaning.specs.declared.outcome.Outcome.TheVariants as outcome
+use Rattle.faaslet_meaning.specs.Decoding.{Limit}
+use Rattle.faaslet_meaning.specs.Decoding as decoding
 
 -- a hexadecimal digit in lower case
 abbrev pub hex_digit : ℕ → ℕ
@@ -67,9 +69,31 @@ call_line o output used = line (codes "call " ++ outcome_text o output used)
 abbrev pub usage : List ℕ
 usage = line (codes "usage: faasm check FILE | call FILE INPUTHEX FUEL | trace SESSION SEED | run SESSION | load N")
 
+-- what `check` says of a module that is not refused
+abbrev pub valid : List ℕ
+valid = line (codes "valid")
+
 -- the refusals of a module
 abbrev pub too_long : List ℕ
 too_long = line (codes "too long")
+
+abbrev pub malformed : List ℕ
+malformed = line (codes "malformed")
+
+abbrev pub float : List ℕ
+float = line (codes "float")
+
+abbrev pub limit_text : Limit → List ℕ
+limit_text decoding.params = codes "params"
+limit_text decoding.locals = codes "locals"
+limit_text decoding.table = codes "table"
+limit_text decoding.globals = codes "globals"
+
+abbrev pub limit : Limit → List ℕ
+limit l = line (codes "limit " ++ limit_text l)
+
+abbrev pub invalid_module : List ℕ
+invalid_module = line (codes "invalid module")
 
 abbrev pub invalid_function : ℕ → List ℕ
 invalid_function k = line (codes "invalid function " ++ decimal k)

@@ -5,4 +5,3 @@ pub mod Machine
 pub mod Numbers
 pub mod OneLine
 pub mod Types
-pub mod Rules

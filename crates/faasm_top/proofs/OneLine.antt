@@ -1,114 +1,182 @@
 -- Where the files are told and the shelf did not fail, one line is due.
-use Rattle.std.proofs.Common.{◌≡◌, ℕ, ◌≤◌, ◌<◌, List, Option, Some, length, refl, sym, ap, subst, ◌∙◌, arith}
+use Rattle.std.proofs.Common.{◌≡◌, ℕ, ◌<◌, List, Option, Some, refl, sym, ap, subst, ◌∙◌, arith, ◌⊎◌, inl, inr}
 use Rattle.fa_outside.specs.Faults.{Rose}
 use Rattle.fa_outside.specs.Files.{Files, file_named}
+use Rattle.faaslet_meaning.specs.declared.module.Module.{Module}
 use Rattle.faaslet_meaning.specs.declared.outcome.Outcome.{Outcome}
 use Rattle.faaslet_meaning.specs.Channels.{told_nothing}
-use Rattle.faaslet_meaning.specs.Decoding.{module_limit}
-use Rattle.faaslet_meaning.specs.Productions.{NoSpelling}
+use Rattle.faaslet_meaning.specs.Decoding.{Decoded, DecodesTo}
+use Rattle.faaslet_meaning.specs.Decoding as decoding
 use Rattle.faaslet_meaning.specs.Report as report
 use Rattle.faaslet_meaning.specs.Runs.{Runs}
-use Rattle.faaslet_meaning.specs.Valid.{BodyTyped}
-use Rattle.faaslet_meaning.specs.Words.{Command, call, CommandOf, call_function}
+use Rattle.faaslet_meaning.specs.Valid.{RulesHold, FirstUntyped}
+use Rattle.faaslet_meaning.specs.Words.{Command, call, check, CommandOf, call_function}
+use Rattle.faaslet_meaning.proofs.OneAnswer.{one_answer}
 use Rattle.faaslet_meaning.proofs.OneCommand.{one_command}
 use Rattle.faaslet_meaning.proofs.One.{one_run}
-use Rattle.wasm_decode.specs.declared.instr.MinimalInstr.{MinimalInstr}
 use Rattle.wasm_decode.specs.Minimal.{IsMinimal, minimal_module}
 use Rattle.wasm_decode.proofs.MinimalLaws.{one_minimal}
-use Rattle.faasm_top.specs.Answers.{status_of, Calls, CallsMinimal, IsRun, IsLater, IsRefused, later, too_long, not_minimal, untyped, IsDue, ran, usage, refused, read_fault}
+use Rattle.faasm_top.specs.Answers.{status_of, file_of, IsAccepted, IsRefusal, too_long, malformed, float, limit, invalid, untyped, Reads, ReadsFile, IsRun, IsRefused, IsLater, IsOther, IsDue, valid, ran, usage, refused, later, other, read_fault}
+
+-- ---- the bytes of a file
+
+-- what `decode` says of bytes that are refused
+abbrev Why : Decoded → List ℕ → Type 0
+Why decoding.too_long line = line ≡ report.too_long
+Why decoding.malformed line = line ≡ report.malformed
+Why decoding.float line = line ≡ report.float
+Why (decoding.limit l) line = line ≡ report.limit l
+Why (decoding.accepted m) line = ((RulesHold m → ⊥) × (line ≡ report.invalid_module)) ⊎ ((k : ℕ) × FirstUntyped m k × (line ≡ report.invalid_function k))
+
+record IsWhy (bytes line : List ℕ) : Type 0 where
+  decoded : Decoded
+  decodes : DecodesTo decoded bytes
+  why : Why decoded line
+
+why_of : (bytes line : List ℕ) → IsRefusal bytes line → IsWhy bytes line
+why_of bytes line (too_long d e) = record { decoded = decoding.too_long; decodes = d; why = e }
+why_of bytes line (malformed d e) = record { decoded = decoding.malformed; decodes = d; why = e }
+why_of bytes line (float d e) = record { decoded = decoding.float; decodes = d; why = e }
+why_of bytes line (limit l d e) = record { decoded = decoding.limit l; decodes = d; why = e }
+why_of bytes line (invalid m d r e) = record { decoded = decoding.accepted m; decodes = d; why = inl (r, e) }
+why_of bytes line (untyped m k d f e) = record { decoded = decoding.accepted m; decodes = d; why = inr (k, f, e) }
+
+-- a module has one first untyped body
+one_first : (m : Module) (j k : ℕ) → FirstUntyped m j → FirstUntyped m k → j ≡ k
+one_first m j k p q =
+    let not_below : j < k → ⊥ = λ less. p.untyped (q.before j less) in
+    let not_above : k < j → ⊥ = λ less. q.untyped (p.before k less) in
+    omega (arith, not_below, not_above)
+
+one_why : (d : Decoded) (l m : List ℕ) → Why d l → Why d m → l ≡ m
+one_why decoding.too_long l m p q = p ∙ sym q
+one_why decoding.malformed l m p q = p ∙ sym q
+one_why decoding.float l m p q = p ∙ sym q
+one_why (decoding.limit k) l m p q = p ∙ sym q
+one_why (decoding.accepted c) l m (inl p) (inl q) = p.1 ∙ sym q.1
+one_why (decoding.accepted c) l m (inl p) (inr (k, f, e)) = absurd (p.0 f.rules)
+one_why (decoding.accepted c) l m (inr (k, f, e)) (inl q) = absurd (q.0 f.rules)
+one_why (decoding.accepted c) l m (inr (j, f, e)) (inr (k, g, h)) = e ∙ ap report.invalid_function (one_first c j k f g) ∙ sym h
+
+one_refusal : (bytes l m : List ℕ) → IsRefusal bytes l → IsRefusal bytes m → l ≡ m
+one_refusal bytes l m p q =
+    let a = why_of bytes l p in
+    let b = why_of bytes m q in
+    one_why b.decoded l m (subst (λ d. Why d l) (one_answer a.decoded b.decoded bytes a.decodes b.decodes) a.why) b.why
+
+-- a file that is accepted is not refused
+not_refused : (bytes line : List ℕ) (m : Module) → IsAccepted m bytes → IsRefusal bytes line → ⊥
+not_refused bytes line m p q =
+    let w = why_of bytes line q in
+    by (subst (λ d. Why d line) (one_answer w.decoded (decoding.accepted m) bytes w.decodes p.decodes) w.why)
+  where
+    by : Why (decoding.accepted m) line → ⊥
+    by (inl r) = r.0 p.valid.rules
+    by (inr (k, f, e)) = f.untyped (p.valid.bodies_typed k)
+
+-- ---- the words and their file
 
 same_call : (f g i j : List ℕ) (m n : ℕ) → call f i m ≡ call g j n → (f ≡ g) × (i ≡ j) × (m ≡ n)
 same_call f g i j m n e = (cc, cc, cc)
 
+check_call : {A : Type 0} (f g i : List ℕ) (n : ℕ) → check f ≡ call g i n → A
+check_call f g i n e = absurd cc
+
+-- the file of a command is that of the words
+pub same_name : (words : List (List ℕ)) (c : Command) (reads : ReadsFile words) → CommandOf c words → file_of c ≡ file_of reads.command
+same_name words c reads is = ap file_of (one_command words c reads.command is reads.is_command)
+
 same_content : (a b : List ℕ) (o : Option (List ℕ)) → o ≡ Some a → o ≡ Some b → a ≡ b
 same_content a b o p q = cc
 
--- two calls that the words are have the same bytes, input and fuel
-same_bytes : (words : List (List ℕ)) (files : Files) (a b i j : List ℕ) (m n : ℕ) → Calls words (Some files) a i m → Calls words (Some files) b j n → (a ≡ b) × (i ≡ j) × (m ≡ n)
-same_bytes words files a b i j m n p q =
-    let same = same_call p.file q.file i j m n (one_command words (call p.file i m) (call q.file j n) p.is_call q.is_call) in
-    let named : file_named files p.file ≡ file_named files q.file = ap (file_named files) same.0 in
-    (same_content a b (file_named files p.file) p.is_file (named ∙ q.is_file), same.1, same.2)
+-- two readings of one list of words have one command and the same bytes
+same_bytes : (words : List (List ℕ)) (files : Files) (c d : Command) (a b : List ℕ) → Reads words (Some files) c a → Reads words (Some files) d b → (c ≡ d) × (a ≡ b)
+same_bytes words files c d a b p q =
+    let same : c ≡ d = one_command words c d p.is_command q.is_command in
+    let name : p.file ≡ q.file = same_content p.file q.file (file_of c) p.is_named (ap file_of same ∙ q.is_named) in
+    (same, same_content a b (file_named files p.file) p.is_file (ap (file_named files) name ∙ q.is_file))
 
--- and the same instructions
-same_code : (words : List (List ℕ)) (files : Files) (i j : List ℕ) (m n : ℕ) (c d : List MinimalInstr) → CallsMinimal words (Some files) i m c → CallsMinimal words (Some files) j n d → (c ≡ d) × (i ≡ j) × (m ≡ n)
-same_code words files i j m n c d p q =
-    let same = same_bytes words files p.bytes q.bytes i j m n p.calls q.calls in
-    (one_minimal c d p.bytes p.is_minimal (subst (IsMinimal d) (sym same.0) q.is_minimal), same.1, same.2)
+-- ---- two lines that are due
 
 lines : (o r : Outcome) (x y : List ℕ) (u v : ℕ) → o ≡ r → x ≡ y → u ≡ v → report.call_line o x u ≡ report.call_line r y v
 lines o r x y u v e f g = cc
 
 run_once : (words : List (List ℕ)) (files : Files) (s t : ℕ) (l m : List ℕ) → IsRun words (Some files) s l → IsRun words (Some files) t m → (s ≡ t) × (l ≡ m)
 run_once words files s t l m p q =
-    let same = same_code words files p.input q.input p.fuel q.fuel p.code q.code p.calls q.calls in
-    let again = subst (λ c. Runs (call_function (minimal_module c) p.fuel) p.input told_nothing q.outcome q.output q.used) (sym same.0)
-    (subst (λ n. Runs (call_function (minimal_module q.code) n) p.input told_nothing q.outcome q.output q.used) (sym same.2)
-    (subst (λ i. Runs (call_function (minimal_module q.code) q.fuel) i told_nothing q.outcome q.output q.used) (sym same.1) q.runs)) in
+    let same = same_bytes words files (call p.file p.input p.fuel) (call q.file q.input q.fuel) p.bytes q.bytes p.reads q.reads in
+    let values = same_call p.file q.file p.input q.input p.fuel q.fuel same.0 in
+    let codes = one_minimal p.code q.code p.bytes p.is_minimal (subst (IsMinimal q.code) (sym same.1) q.is_minimal) in
+    let again = subst (λ c. Runs (call_function (minimal_module c) p.fuel) p.input told_nothing q.outcome q.output q.used) (sym codes)
+    (subst (λ n. Runs (call_function (minimal_module q.code) n) p.input told_nothing q.outcome q.output q.used) (sym values.2)
+    (subst (λ i. Runs (call_function (minimal_module q.code) q.fuel) i told_nothing q.outcome q.output q.used) (sym values.1) q.runs)) in
     let ends = one_run (call_function (minimal_module p.code) p.fuel) p.input told_nothing told_nothing p.outcome q.outcome p.output q.output p.used q.used p.no_want q.no_want (λ ch. refl) p.runs again in
     (p.is_status ∙ ap status_of ends.0 ∙ sym q.is_status, p.is_line ∙ lines p.outcome q.outcome p.output q.output p.used q.used ends.0 ends.1 ends.2 ∙ sym q.is_line)
 
--- a call is no command that comes later
-pub is_now : (words : List (List ℕ)) (c : Command) (file input : List ℕ) (fuel : ℕ) → CommandOf c words → IsLater c → CommandOf (call file input fuel) words → ⊥
-is_now words c file input fuel p late q = subst IsLater (one_command words c (call file input fuel) p q) late
+-- bytes of one reading are accepted, and those of another refused
+split : (words : List (List ℕ)) (files : Files) (c : Command) (bytes line : List ℕ) (m : Module) → Reads words (Some files) c bytes → IsAccepted m bytes → IsRefused words (Some files) line → ⊥
+split words files c bytes line m reads accepted q =
+    let same = same_bytes words files c q.command bytes q.bytes reads q.reads in
+    not_refused q.bytes line m (subst (λ b. IsAccepted m b) same.1 accepted) q.refusal
 
--- what is due to a run is no refusal
-not_both : (words : List (List ℕ)) (files : Files) (s : ℕ) (l m : List ℕ) → IsRun words (Some files) s l → IsRefused words (Some files) m → ⊥
-not_both words files s l m p (later c is late line) = is_now words c p.calls.calls.file p.input p.fuel is late p.calls.calls.is_call
-not_both words files s l m p (too_long bytes input fuel calls long line) =
-    let same = same_bytes words files p.calls.bytes bytes p.input input p.fuel fuel p.calls.calls calls in
-    let size = ap length same.0 in
-    let few = p.calls.few in
-    absurd (omega arith)
-not_both words files s l m p (not_minimal bytes input fuel calls few none line) =
-    let same = same_bytes words files p.calls.bytes bytes p.input input p.fuel fuel p.calls.calls calls in
-    none.none p.code (subst (IsMinimal p.code) same.0 p.calls.is_minimal)
-not_both words files s l m p (untyped input fuel code calls first line) =
-    let same = same_code words files p.input input p.fuel fuel p.code code p.calls calls in
-    first.untyped (subst (λ c. BodyTyped (minimal_module c) 0) same.0 p.typed)
+-- a command that reads a file is built
+built : (words : List (List ℕ)) (told : Option Files) (c : Command) (bytes : List ℕ) → Reads words told c bytes → IsLater words → ⊥
+built words told c bytes reads q =
+    let same = one_command words c q.command reads.is_command q.is_command in
+    let named = sym reads.is_named ∙ ap file_of same ∙ q.no_file in
+    absurd cc
 
--- the same of two refusals
-abbrev long_few : (words : List (List ℕ)) (files : Files) (a b i j : List ℕ) (m n : ℕ) → Calls words (Some files) a i m → Calls words (Some files) b j n → module_limit < length a → length b ≤ module_limit → ⊥
-long_few words files a b i j m n p q long few = let same = same_bytes words files a b i j m n p q in let size = ap length same.0 in absurd (omega arith)
+-- `check` is no `call`
+apart : {A : Type 0} (words : List (List ℕ)) (told : Option Files) (f g i a b : List ℕ) (n : ℕ) → Reads words told (check f) a → Reads words told (call g i n) b → A
+apart words told f g i a b n p q = check_call f g i n (one_command words (check f) (call g i n) p.is_command q.is_command)
 
-other_code : (words : List (List ℕ)) (files : Files) (a i j : List ℕ) (m n : ℕ) (c : List MinimalInstr) → Calls words (Some files) a i m → CallsMinimal words (Some files) j n c → NoSpelling IsMinimal a → ⊥
-other_code words files a i j m n c p q none = let same = same_bytes words files a q.bytes i j m n p q.calls in none.none c (subst (IsMinimal c) (sym same.0) q.is_minimal)
+-- a minimal module is not another
+minimal : (words : List (List ℕ)) (files : Files) (s : ℕ) (l : List ℕ) → IsRun words (Some files) s l → IsOther words (Some files) → ⊥
+minimal words files s l p q =
+    let same = same_bytes words files (call p.file p.input p.fuel) (call q.file q.input q.fuel) p.bytes q.bytes p.reads q.reads in
+    q.not_minimal.none p.code (subst (IsMinimal p.code) same.1 p.is_minimal)
 
 refused_once : (words : List (List ℕ)) (files : Files) (l m : List ℕ) → IsRefused words (Some files) l → IsRefused words (Some files) m → l ≡ m
-refused_once words files l m (later c is late line) (later d also more other) = line ∙ sym other
-refused_once words files l m (later c is late line) (too_long b j n calls long other) = absurd (is_now words c calls.file j n is late calls.is_call)
-refused_once words files l m (later c is late line) (not_minimal b j n calls few none other) = line ∙ sym other
-refused_once words files l m (later c is late line) (untyped j n d calls first other) = absurd (is_now words c calls.calls.file j n is late calls.calls.is_call)
-refused_once words files l m (too_long b j n calls long other) (later c is late line) = absurd (is_now words c calls.file j n is late calls.is_call)
-refused_once words files l m (too_long b j n calls long other) (too_long a i k called also line) = other ∙ sym line
-refused_once words files l m (too_long b j n calls long other) (not_minimal a i k called few none line) = absurd (long_few words files b a j i n k calls called long few)
-refused_once words files l m (too_long b j n calls long other) (untyped i k d called first line) = absurd (long_few words files b called.bytes j i n k calls called.calls long called.few)
-refused_once words files l m (not_minimal b j n calls few none other) (later c is late line) = other ∙ sym line
-refused_once words files l m (not_minimal b j n calls few none other) (too_long a i k called long line) = absurd (long_few words files a b i j k n called calls long few)
-refused_once words files l m (not_minimal b j n calls few none other) (not_minimal a i k called also more line) = other ∙ sym line
-refused_once words files l m (not_minimal b j n calls few none other) (untyped i k d called first line) = absurd (other_code words files b j i n k d calls called none)
-refused_once words files l m (untyped j n c calls first other) (later d is late line) = absurd (is_now words d calls.calls.file j n is late calls.calls.is_call)
-refused_once words files l m (untyped j n c calls first other) (too_long a i k called long line) = absurd (long_few words files a calls.bytes i j k n called calls.calls long calls.few)
-refused_once words files l m (untyped j n c calls first other) (not_minimal a i k called few none line) = absurd (other_code words files a i j k n c called calls none)
-refused_once words files l m (untyped j n c calls first other) (untyped i k d called also line) = other ∙ sym line
-
--- where the words are a command, the usage isn't due
-commanded : (words : List (List ℕ)) (told : Option Files) (l : List ℕ) → NoSpelling CommandOf words → IsRefused words told l → ⊥
-commanded words told l none (later c is late line) = none.none c is
-commanded words told l none (too_long b j n calls long line) = none.none (call calls.file j n) calls.is_call
-commanded words told l none (not_minimal b j n calls few other line) = none.none (call calls.file j n) calls.is_call
-commanded words told l none (untyped j n c calls first line) = none.none (call calls.calls.file j n) calls.calls.is_call
+refused_once words files l m p q =
+    let same = same_bytes words files p.command q.command p.bytes q.bytes p.reads q.reads in
+    one_refusal q.bytes l m (subst (λ b. IsRefusal b l) same.1 p.refusal) q.refusal
 
 pub one_line : (words : List (List ℕ)) (files : Files) (before after s t : ℕ) (l m : List ℕ) → (Rose before after → ⊥) → IsDue words (Some files) before after s l → IsDue words (Some files) before after t m
     → (s ≡ t) × (l ≡ m)
+one_line words files before after s t l m calm (read_fault p a b) q = absurd (calm p.rose)
+one_line words files before after s t l m calm p (read_fault q c d) = absurd (calm q.rose)
+one_line words files before after s t l m calm (valid p a b) (valid q c d) = (a ∙ sym c, b ∙ sym d)
+one_line words files before after s t l m calm (valid p a b) (ran q) = apart words (Some files) p.file q.file q.input p.bytes q.bytes q.fuel p.reads q.reads
+one_line words files before after s t l m calm (valid p a b) (usage none c d) = absurd (none.none (check p.file) p.reads.is_command)
+one_line words files before after s t l m calm (valid p a b) (refused q c) = absurd (split words files (check p.file) p.bytes m p.code p.reads p.accepted q)
+one_line words files before after s t l m calm (valid p a b) (later q c d) = absurd (built words (Some files) (check p.file) p.bytes p.reads q)
+one_line words files before after s t l m calm (valid p a b) (other q c d) = apart words (Some files) p.file q.file q.input p.bytes q.bytes q.fuel p.reads q.reads
+one_line words files before after s t l m calm (ran p) (valid q c d) = apart words (Some files) q.file p.file p.input q.bytes p.bytes p.fuel q.reads p.reads
 one_line words files before after s t l m calm (ran p) (ran q) = run_once words files s t l m p q
-one_line words files before after s t l m calm (ran p) (usage t-is m-is none) = absurd (none.none (call p.calls.calls.file p.input p.fuel) p.calls.calls.is_call)
-one_line words files before after s t l m calm (ran p) (refused t-is q) = absurd (not_both words files s l m p q)
-one_line words files before after s t l m calm (usage s-is l-is none) (ran q) = absurd (none.none (call q.calls.calls.file q.input q.fuel) q.calls.calls.is_call)
-one_line words files before after s t l m calm (usage s-is l-is none) (usage t-is m-is also) = (s-is ∙ sym t-is, l-is ∙ sym m-is)
-one_line words files before after s t l m calm (usage s-is l-is none) (refused t-is q) = absurd (commanded words (Some files) m none q)
-one_line words files before after s t l m calm (refused s-is p) (ran q) = absurd (not_both words files t m l q p)
-one_line words files before after s t l m calm (refused s-is p) (usage t-is m-is none) = absurd (commanded words (Some files) l none p)
-one_line words files before after s t l m calm (refused s-is p) (refused t-is q) = (s-is ∙ sym t-is, refused_once words files l m p q)
-one_line words files before after s t l m calm (read_fault s-is l-is p) q = absurd (calm p.rose)
-one_line words files before after s t l m calm p (read_fault t-is m-is q) = absurd (calm q.rose)
+one_line words files before after s t l m calm (ran p) (usage none c d) = absurd (none.none (call p.file p.input p.fuel) p.reads.is_command)
+one_line words files before after s t l m calm (ran p) (refused q c) = absurd (split words files (call p.file p.input p.fuel) p.bytes m (minimal_module p.code) p.reads p.accepted q)
+one_line words files before after s t l m calm (ran p) (later q c d) = absurd (built words (Some files) (call p.file p.input p.fuel) p.bytes p.reads q)
+one_line words files before after s t l m calm (ran p) (other q c d) = absurd (minimal words files s l p q)
+one_line words files before after s t l m calm (usage none a b) (valid q c d) = absurd (none.none (check q.file) q.reads.is_command)
+one_line words files before after s t l m calm (usage none a b) (ran q) = absurd (none.none (call q.file q.input q.fuel) q.reads.is_command)
+one_line words files before after s t l m calm (usage none a b) (usage also c d) = (a ∙ sym c, b ∙ sym d)
+one_line words files before after s t l m calm (usage none a b) (refused q c) = absurd (none.none q.command q.reads.is_command)
+one_line words files before after s t l m calm (usage none a b) (later q c d) = absurd (none.none q.command q.is_command)
+one_line words files before after s t l m calm (usage none a b) (other q c d) = absurd (none.none (call q.file q.input q.fuel) q.reads.is_command)
+one_line words files before after s t l m calm (refused p a) (valid q c d) = absurd (split words files (check q.file) q.bytes l q.code q.reads q.accepted p)
+one_line words files before after s t l m calm (refused p a) (ran q) = absurd (split words files (call q.file q.input q.fuel) q.bytes l (minimal_module q.code) q.reads q.accepted p)
+one_line words files before after s t l m calm (refused p a) (usage none c d) = absurd (none.none p.command p.reads.is_command)
+one_line words files before after s t l m calm (refused p a) (refused q c) = (a ∙ sym c, refused_once words files l m p q)
+one_line words files before after s t l m calm (refused p a) (later q c d) = absurd (built words (Some files) p.command p.bytes p.reads q)
+one_line words files before after s t l m calm (refused p a) (other q c d) = absurd (split words files (call q.file q.input q.fuel) q.bytes l q.code q.reads q.accepted p)
+one_line words files before after s t l m calm (later p a b) (valid q c d) = absurd (built words (Some files) (check q.file) q.bytes q.reads p)
+one_line words files before after s t l m calm (later p a b) (ran q) = absurd (built words (Some files) (call q.file q.input q.fuel) q.bytes q.reads p)
+one_line words files before after s t l m calm (later p a b) (usage none c d) = absurd (none.none p.command p.is_command)
+one_line words files before after s t l m calm (later p a b) (refused q c) = absurd (built words (Some files) q.command q.bytes q.reads p)
+one_line words files before after s t l m calm (later p a b) (later q c d) = (a ∙ sym c, b ∙ sym d)
+one_line words files before after s t l m calm (later p a b) (other q c d) = (a ∙ sym c, b ∙ sym d)
+one_line words files before after s t l m calm (other p a b) (valid q c d) = apart words (Some files) q.file p.file p.input q.bytes p.bytes p.fuel q.reads p.reads
+one_line words files before after s t l m calm (other p a b) (ran q) = absurd (minimal words files t m q p)
+one_line words files before after s t l m calm (other p a b) (usage none c d) = absurd (none.none (call p.file p.input p.fuel) p.reads.is_command)
+one_line words files before after s t l m calm (other p a b) (refused q c) = absurd (split words files (call p.file p.input p.fuel) p.bytes m p.code p.reads p.accepted q)
+one_line words files before after s t l m calm (other p a b) (later q c d) = (a ∙ sym c, b ∙ sym d)
+one_line words files before after s t l m calm (other p a b) (other q c d) = (a ∙ sym c, b ∙ sym d)

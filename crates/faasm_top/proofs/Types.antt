@@ -1,6 +1,6 @@
--- The body of a minimal module is typed where its instructions leave one value.
+-- Where the body of a minimal module is typed, its instructions leave one value.
 use Rattle.std.proofs.Common.{◌≡◌, ℕ, ℤ, Bool, true, false, cond, ◌≤◌, drop, get_or, zero, suc, ◌+◌, List, [], ◌∷◌, ◌++◌, Option, Some, None, length, refl, sym, ap, subst, ◌∙◌, arith, w32}
-use Rattle.std.specs.Prelude.{slice_get, nat_lt}
+use Rattle.std.specs.Prelude.{nat_lt}
 use Rattle.std.specs.Int.{cast_unsigned}
 use Rattle.std.proofs.lemmas.List.{drop_all}
 use Rattle.faaslet_meaning.specs.Limits.{value_limit}
@@ -12,7 +12,7 @@ use Rattle.faaslet_meaning.specs.declared.module.Body.{Body}
 use Rattle.faaslet_meaning.specs.declared.module.FuncType.{FuncType}
 use Rattle.faaslet_meaning.specs.Integers.{Numeric, binary, add, numeric_of}
 use Rattle.faaslet_meaning.specs.Typing.{Context, Typed, IsTyped, operands_of, result_of}
-use Rattle.faaslet_meaning.specs.Valid.{HasBody, BodyTyped, FirstUntyped, context_of}
+use Rattle.faaslet_meaning.specs.Valid.{BodyTyped, context_of}
 use Rattle.faaslet_meaning.specs.Parse.{tree_of}
 use Rattle.faaslet_meaning.proofs.Written.{tree_written, typed_body}
 use Rattle.wasm_decode.specs.declared.instr.MinimalInstr.{MinimalInstr}
@@ -21,7 +21,6 @@ use Rattle.wasm_decode.specs.Minimal.{minimal_module}
 use Rattle.wasm_decode.proofs.Sequences.{tree, instrs}
 use Rattle.faasm_top.specs.Heights.{height_after}
 use Rattle.faasm_top.proofs.Machine.{is_written}
-use Rattle.faasm_top.proofs.Rules.{minimal_rules}
 
 -- so many of i32
 abbrev i32s : ℕ → List ValType
@@ -36,14 +35,6 @@ same_types (suc h) (suc k) e = let less : i32s h ≡ i32s k = cc in ap suc (same
 
 same_some : (h k : ℕ) → (let o : Option ℕ = Some h in o ≡ Some k) → h ≡ k
 same_some h k e = cc
-
-typed_to : (c : Context) (code : List MinimalInstr) (h k : ℕ) → height_after code h ≡ Some k → Typed (tree code) c (i32s k) (i32s h)
-typed_to c [] h k e = ap i32s (same_some h k e)
-typed_to c (Const n ∷ code) h k e = (i32s (suc h), record { takes = []; leaves = I32 ∷ []; under = i32s h; type = (refl, refl); before = refl; after = refl }, typed_to c code (suc h) k e)
-typed_to c (Add ∷ code) (suc (suc h)) k e =
-    (i32s (suc h), record { takes = I32 ∷ I32 ∷ []; leaves = I32 ∷ []; under = i32s h; type = (binary add w32, refl, (refl, refl)); before = refl; after = refl }, typed_to c code (suc h) k e)
-typed_to c (Add ∷ code) (suc zero) k e = absurd cc
-typed_to c (Add ∷ code) zero k e = absurd cc
 
 -- what an addition takes and leaves
 sum_of : (n : Numeric) (ps qs : List ValType) → numeric_of 0x6A ≡ Some n → ps ≡ operands_of n → qs ≡ result_of n ∷ [] → (ps ≡ I32 ∷ I32 ∷ []) × (qs ≡ I32 ∷ [])
@@ -78,36 +69,12 @@ body code = record { locals = []; code = instrs code ++ End ∷ [] }
 abbrev type : FuncType
 type = record { params = []; results = I32 ∷ [] }
 
--- it is the only body
-only : (code : List MinimalInstr) (t : FuncType) (b : Body) → HasBody (minimal_module code) 0 t b → (type ≡ t) × (body code ≡ b)
-only code t b p =
-    let at : 0 ≡ p.place = omega (arith, p.behind_imports) in
-    (is_type t p.type, is_body b (subst (λ k. slice_get (body code ∷ []) k ≡ Some b) (sym at) p.body))
-  where
-    is_type : (u : FuncType) → slice_get (type ∷ []) 0 ≡ Some u → type ≡ u
-    is_type u e = cc
-
-    is_body : (d : Body) → slice_get (body code ∷ []) 0 ≡ Some d → body code ≡ d
-    is_body d e = cc
-
-pub typed : (code : List MinimalInstr) → height_after code 0 ≡ Some 1 → BodyTyped (minimal_module code) 0
-typed code e t b p =
-    let same = only code t b p in
+pub height : (code : List MinimalInstr) → BodyTyped (minimal_module code) 0 → height_after code 0 ≡ Some 1
+height code p =
     let c = context_of (minimal_module code) type (body code) in
-    let it : IsTyped c (instrs code ++ End ∷ []) = record { tree = tree code; is_written = is_written code; typed = typed_to c code 0 1 e } in
-    subst (λ d. IsTyped (context_of (minimal_module code) t d) d.code) same.1 (subst (λ u. IsTyped (context_of (minimal_module code) u (body code)) (instrs code ++ End ∷ [])) same.0 it)
-
-pub untyped : (code : List MinimalInstr) → (height_after code 0 ≡ Some 1 → ⊥) → FirstUntyped (minimal_module code) 0
-untyped code none =
-    record {
-      rules = minimal_rules code;
-      untyped = λ p.
-          (let c = context_of (minimal_module code) type (body code) in
-          let it : IsTyped c (instrs code ++ End ∷ []) = p type (body code) (record { place = 0; behind_imports = refl; type = refl; body = refl }) in
-          let same : tree_of (instrs code ++ End ∷ []) ≡ tree code = tree_written (instrs code ++ End ∷ []) (tree code) (is_written code) in
-          none (typed_from c code 0 1 (subst (λ t. Typed t c (I32 ∷ []) []) same (typed_body c (instrs code ++ End ∷ []) it))));
-      before = λ j less. absurd (omega arith);
-    }
+    let it : IsTyped c (instrs code ++ End ∷ []) = p type (body code) (record { place = 0; behind_imports = refl; type = refl; body = refl }) in
+    let same : tree_of (instrs code ++ End ∷ []) ≡ tree code = tree_written (instrs code ++ End ∷ []) (tree code) (is_written code) in
+    typed_from c code 0 1 (subst (λ t. Typed t c (I32 ∷ []) []) same (typed_body c (instrs code ++ End ∷ []) it))
 
 -- ---- what the heights say of a place in the list
 

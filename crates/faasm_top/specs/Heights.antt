@@ -1,5 +1,5 @@
--- How many values the instructions of a minimal module leave, one after the other. This project's own; that this is
--- typing is proved in `proofs/Types`.
+-- How many values the instructions of a minimal module leave, one after the other. This project's own; that a
+-- typed body leaves one is proved in `proofs/Types`.
 use Rattle.std.specs.Prelude.{ℕ, suc, List, [], ◌∷◌, Option, Some, None}
 use Rattle.wasm_decode.specs.declared.instr.MinimalInstr.{MinimalInstr}
 use Rattle.wasm_decode.specs.declared.instr.MinimalInstr.TheVariants.{Const, Add}

@@ -3,3 +3,4 @@ pub mod Commands
 pub mod Endings
 pub mod Heights
 pub mod Operands
+pub mod Refusals

@@ -1,67 +1,74 @@
 //! What the program does.
 
-ghost use Rattle.std.specs.Prelude.{◌≡◌, ℕ, ◌<◌, ◌≤◌, ◌≢◌, ◌⊎◌, List, [], Some, IsSome, IsTrue, IfOk, length, false};
+ghost use Rattle.std.specs.Prelude.{◌≡◌, ℕ, ◌<◌, ◌≤◌, ◌≢◌, ◌⊎◌, List, [], Some, None, IsSome, IsTrue, IfOk, IfErr, false};
 ghost use Rattle.std.specs.String.{string_bytes};
 ghost use Rattle.fa_outside.specs.Faults.{Rose};
-ghost use Rattle.fa_outside.specs.Files.{Files, IsFile};
-ghost use Rattle.faaslet_meaning.specs.Decoding.{module_limit};
+ghost use Rattle.fa_outside.specs.Files.{Files};
 ghost use Rattle.faaslet_meaning.specs.Words.{call, CommandOf};
-ghost use Rattle.faasm_top.specs.Answers.{code_of, IsLater, NoCall, IsDue, DueToModule, WritesWhole, WritesPart};
+ghost use Rattle.faasm_top.specs.Answers.{code_of, file_of, IsAccepted, IsRefusal, ReadsFile, IsDue, DueToModule, WritesWhole, WritesPart};
 ghost use Rattle.faasm_top.specs.Commands.{texts, command_of};
 
-use crate::report::{Report, Status, not_built, ran, read_fault, too_long, untyped, usage};
+use crate::refusals::{invalid, undecoded};
+use crate::report::{Report, Status, not_built, ran, read_fault, usage, valid};
 use crate::run::run;
-use crate::typing::is_typed;
 use crate::words::{Command, WordsFault, read_words};
 use fa_outside::{Failed, ReadFault, Shelf, Sink, read_file, write_whole};
 use std::alloc::{AllocError, Global};
-use wasm_decode::read_minimal;
+use wasm_decode::{DecodeFault, decode, read_minimal};
+use wasm_validate::{ValidModule, validate};
 
 /// The bytes of a module file.
 const MODULE_LIMIT: usize = 4_194_304;
 
-/// Answers a call of the module that these bytes are, whatever its input.
-fn answer_module(alloc: Global, bytes: &[u8], fuel: u64) -> Result<Report, AllocError>
-    requires { length bytes.now ≤ module_limit }
-    ensures due { IfOk result (λ r. DueToModule bytes.now fuel
-        (code_of r.status) (string_bytes r.line)) }
+/// The module in these bytes where it is valid, else the line of the first reason against it.
+fn read_valid(alloc: Global, bytes: &[u8]) -> Result<Result<ValidModule, Report>, AllocError>
+    ensures accepted { IfOk result (λ r. IfOk r (λ code. IsAccepted code bytes.now)) }
+    ensures refused { IfOk result (λ r. IfErr r (λ x. IsRefusal bytes.now (string_bytes x.line))) }
+    ensures status { IfOk result (λ r. IfErr r (λ x. code_of x.status ≡ 3)) }
+{
+    let module = match decode(alloc, bytes) {
+        Ok(module) => module,
+        Err(fault) => return Ok(Err(undecoded(alloc, fault)?)),
+    };
+    match validate(alloc, module) {
+        Ok(module) => Ok(Ok(module)),
+        Err(refused) => Ok(Err(invalid(alloc, refused.fault)?)),
+    }
+}
+
+/// Answers a call of the valid module in these bytes, whatever its input.
+fn call_module(
+    alloc: Global,
+    bytes: &[u8],
+    module: &ValidModule,
+    fuel: u64,
+) -> Result<Report, AllocError>
+    requires { IsAccepted «module».now bytes.now }
+    ensures due { IfOk result (λ r. (file input : List ℕ)
+        → DueToModule (call file input fuel) bytes.now (code_of r.status) (string_bytes r.line)) }
     ensures no_fault { IfOk result (λ r. code_of r.status ≢ 4) }
 {
     let Some(code) = read_minimal(alloc, bytes)? else {
         return not_built(alloc);
     };
-    let code = code.as_slice();
-    if !is_typed(code) {
-        return untyped(alloc);
-    }
-    ran(alloc, &run(alloc, code, fuel)?)
+    ran(alloc, &run(alloc, code.as_slice(), fuel)?)
 }
 
-/// Answers a call of the module in a file, whatever its input.
-fn answer_call<F: Shelf>(
-    alloc: Global,
-    shelf: &mut F,
-    file: &str,
-    fuel: u64,
-) -> Result<Report, AllocError>
-    ensures due { IfOk result (λ r. (words : List (List ℕ)) (input : List ℕ)
-        → CommandOf (call file.now input fuel) words
-        → IsDue words (F.told shelf.old) (F.faults shelf.old) (F.faults shelf.new)
+/// Answers a command that reads a file with these bytes.
+fn answer_module(alloc: Global, bytes: &[u8], command: &Command<'_>) -> Result<Report, AllocError>
+    requires { file_of (command_of command.now) ≢ None }
+    ensures due { IfOk result (λ r. DueToModule (command_of command.now) bytes.now
         (code_of r.status) (string_bytes r.line)) }
-    ensures closed { IfOk result (λ r. code_of r.status ≡ 4 → F.is_open shelf.new ≡ false) }
-    ensures ended { IfOk result (λ r. code_of r.status ≤ 1
-        → IsSome (F.told shelf.old) → F.rest shelf.new ≡ []) }
-    ensures left_open { IfOk result (λ r. code_of r.status ≢ 4 → IsTrue (F.is_open shelf.new)) }
-    ensures told { F.told shelf.new ≡ F.told shelf.old }
-    ensures counted { F.faults shelf.old ≤ F.faults shelf.new }
+    ensures no_fault { IfOk result (λ r. code_of r.status ≢ 4) }
 {
-    let bytes = match read_file(alloc, shelf, file, MODULE_LIMIT) {
-        Ok(bytes) => bytes,
-        Err(ReadFault::Failed) => return read_fault(alloc),
-        Err(ReadFault::TooLong) => return too_long(alloc),
-        Err(ReadFault::Want) => return Err(AllocError),
+    let module = match read_valid(alloc, bytes)? {
+        Ok(module) => module,
+        Err(report) => return Ok(report),
     };
-    answer_module(alloc, &bytes, fuel)
+    match command {
+        Command::Call { fuel, .. } => call_module(alloc, bytes, &module, *fuel),
+        _ => valid(alloc),
+    }
 }
 
 /// Answers a command.
@@ -74,19 +81,25 @@ fn answer_command<F: Shelf>(
         → CommandOf (command_of command.now) words
         → IsDue words (F.told shelf.old) (F.faults shelf.old) (F.faults shelf.new)
         (code_of r.status) (string_bytes r.line)) }
-    ensures untouched { IsLater (command_of command.now) → shelf.new ≡ shelf.old }
+    ensures untouched { file_of (command_of command.now) ≡ None → shelf.new ≡ shelf.old }
     ensures closed { IfOk result (λ r. code_of r.status ≡ 4 → F.is_open shelf.new ≡ false) }
     ensures ended { IfOk result (λ r. code_of r.status ≤ 1
         → IsSome (F.told shelf.old) → F.rest shelf.new ≡ []) }
-    ensures left_open { IfOk result (λ r. (IsLater (command_of command.now) → ⊥)
+    ensures left_open { IfOk result (λ r. file_of (command_of command.now) ≢ None
         → code_of r.status ≢ 4 → IsTrue (F.is_open shelf.new)) }
     ensures told { F.told shelf.new ≡ F.told shelf.old }
     ensures counted { F.faults shelf.old ≤ F.faults shelf.new }
 {
-    match command {
-        Command::Call { file, fuel, .. } => answer_call(alloc, shelf, file, *fuel),
-        _ => not_built(alloc),
-    }
+    let Some(file) = command.file() else {
+        return not_built(alloc);
+    };
+    let bytes = match read_file(alloc, shelf, file, MODULE_LIMIT) {
+        Ok(bytes) => bytes,
+        Err(ReadFault::Failed) => return read_fault(alloc),
+        Err(ReadFault::TooLong) => return undecoded(alloc, DecodeFault::TooLong),
+        Err(ReadFault::Want) => return Err(AllocError),
+    };
+    answer_module(alloc, &bytes, command)
 }
 
 /// The line that is due to the words, and its status.
@@ -98,12 +111,11 @@ fn answer_words<F: Shelf>(
     ensures due { IfOk result (λ r.
         IsDue (texts words.now) (F.told shelf.old) (F.faults shelf.old) (F.faults shelf.new)
         (code_of r.status) (string_bytes r.line)) }
-    ensures untouched { NoCall (texts words.now) → shelf.new ≡ shelf.old }
+    ensures untouched { (ReadsFile (texts words.now) → ⊥) → shelf.new ≡ shelf.old }
     ensures closed { IfOk result (λ r. code_of r.status ≡ 4 → F.is_open shelf.new ≡ false) }
     ensures ended { IfOk result (λ r. code_of r.status ≤ 1
         → IsSome (F.told shelf.old) → F.rest shelf.new ≡ []) }
-    ensures left_open { IfOk result (λ r. (file input : List ℕ) (fuel : ℕ)
-        → CommandOf (call file input fuel) (texts words.now)
+    ensures left_open { IfOk result (λ r. ReadsFile (texts words.now)
         → code_of r.status ≢ 4 → IsTrue (F.is_open shelf.new)) }
     ensures told { F.told shelf.new ≡ F.told shelf.old }
     ensures counted { F.faults shelf.old ≤ F.faults shelf.new }
@@ -136,12 +148,10 @@ pub fn answer<F: Shelf, O: Sink>(alloc: Global, words: &[String], shelf: &mut F,
     ensures want { result ≡ 6 → out.new ≡ out.old }
 
     // What it leaves of the shelf.
-    ensures untouched { NoCall (texts words.now) → shelf.new ≡ shelf.old }
+    ensures untouched { (ReadsFile (texts words.now) → ⊥) → shelf.new ≡ shelf.old }
     ensures closed { result ≡ 4 → F.is_open shelf.new ≡ false }
     ensures ended { result ≤ 1 → IsSome (F.told shelf.old) → F.rest shelf.new ≡ [] }
-    ensures left_open { (file input : List ℕ) (fuel : ℕ)
-        → CommandOf (call file input fuel) (texts words.now)
-        → (result ≤ 1) ⊎ (result ≡ 3) → IsTrue (F.is_open shelf.new) }
+    ensures left_open { ReadsFile (texts words.now) → (result ≤ 1) ⊎ (result ≡ 3) → IsTrue (F.is_open shelf.new) }
     ensures told { F.told shelf.new ≡ F.told shelf.old }
     ensures shelf_counted { F.faults shelf.old ≤ F.faults shelf.new }
     ensures out_counted { O.faults out.old ≤ O.faults out.new }

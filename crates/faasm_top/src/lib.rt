@@ -3,15 +3,17 @@
 
 mod commands;
 mod operands;
+mod refusals;
 mod report;
 mod run;
-mod typing;
 mod words;
 
 pub use commands::{answer, one_line};
 pub use report::Status;
 pub use words::{Command, WordsFault, read_words};
 
+#[cfg(test)]
+mod check_tests;
 #[cfg(test)]
 mod tests;
 #[cfg(test)]

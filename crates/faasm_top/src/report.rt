@@ -12,7 +12,7 @@ use std::alloc::{AllocError, Global};
 /// How the program ends.
 #[derive(Clone, Copy, Debug, PartialEq, Eq)]
 pub enum Status {
-    /// The call came to its end.
+    /// The module is valid, or the call came to its end.
     Done = 0,
     /// It trapped, or spent its fuel.
     NotDone = 1,
@@ -83,18 +83,27 @@ pub fn ran(alloc: Global, ran: &Ran) -> Result<Report, AllocError>
     }
 }
 
+/// A line that stands fixed.
+pub fn told(alloc: Global, status: Status, line: &str) -> Result<Report, AllocError>
+    ensures status { IfOk result (λ r. r.status ≡ status) }
+    ensures line { IfOk result (λ r. string_bytes r.line ≡ line.now) }
+{
+    Ok(Report {
+        status,
+        line: String::from_str(alloc, line)?,
+    })
+}
+
 /// Words that are no command.
 pub fn usage(alloc: Global) -> Result<Report, AllocError>
     ensures status { IfOk result (λ r. code_of r.status ≡ 2) }
     ensures line { IfOk result (λ r. string_bytes r.line ≡ report.usage) }
 {
-    Ok(Report {
-        status: Status::Usage,
-        line: String::from_str(
-            alloc,
-            "usage: faasm check FILE | call FILE INPUTHEX FUEL | trace SESSION SEED | run SESSION | load N\n",
-        )?,
-    })
+    told(
+        alloc,
+        Status::Usage,
+        "usage: faasm check FILE | call FILE INPUTHEX FUEL | trace SESSION SEED | run SESSION | load N\n",
+    )
 }
 
 /// What isn't built yet.
@@ -102,32 +111,15 @@ pub fn not_built(alloc: Global) -> Result<Report, AllocError>
     ensures status { IfOk result (λ r. code_of r.status ≡ 3) }
     ensures line { IfOk result (λ r. string_bytes r.line ≡ report.not_built) }
 {
-    Ok(Report {
-        status: Status::Refused,
-        line: String::from_str(alloc, "not built\n")?,
-    })
+    told(alloc, Status::Refused, "not built\n")
 }
 
-/// A file that is longer than a module may be.
-pub fn too_long(alloc: Global) -> Result<Report, AllocError>
-    ensures status { IfOk result (λ r. code_of r.status ≡ 3) }
-    ensures line { IfOk result (λ r. string_bytes r.line ≡ report.too_long) }
+/// A file that holds a valid module.
+pub fn valid(alloc: Global) -> Result<Report, AllocError>
+    ensures status { IfOk result (λ r. code_of r.status ≡ 0) }
+    ensures line { IfOk result (λ r. string_bytes r.line ≡ report.valid) }
 {
-    Ok(Report {
-        status: Status::Refused,
-        line: String::from_str(alloc, "too long\n")?,
-    })
-}
-
-/// A module whose function 0 is untyped.
-pub fn untyped(alloc: Global) -> Result<Report, AllocError>
-    ensures status { IfOk result (λ r. code_of r.status ≡ 3) }
-    ensures line { IfOk result (λ r. string_bytes r.line ≡ report.invalid_function 0) }
-{
-    Ok(Report {
-        status: Status::Refused,
-        line: String::from_str(alloc, "invalid function 0\n")?,
-    })
+    told(alloc, Status::Done, "valid\n")
 }
 
 /// A file that can't be read.
@@ -135,8 +127,5 @@ pub fn read_fault(alloc: Global) -> Result<Report, AllocError>
     ensures status { IfOk result (λ r. code_of r.status ≡ 4) }
     ensures line { IfOk result (λ r. string_bytes r.line ≡ report.read_fault) }
 {
-    Ok(Report {
-        status: Status::ShelfFailed,
-        line: String::from_str(alloc, "read fault\n")?,
-    })
+    told(alloc, Status::ShelfFailed, "read fault\n")
 }

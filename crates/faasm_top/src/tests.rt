@@ -11,17 +11,19 @@ pub const ANSWER: [u8; 37] = [
 ];
 
 /// The places in it of three sections.
-const TYPES: usize = 8;
+pub const TYPES: usize = 8;
 
-const FUNCTIONS: usize = 15;
+pub const FUNCTIONS: usize = 15;
 
-const CODE: usize = 29;
+pub const CODE: usize = 29;
 
 pub const DONE: &str = "call done 42 used 1 output \n";
 
 pub const NOT_BUILT: &str = "not built\n";
 
-const UNTYPED: &str = "invalid function 0\n";
+pub const UNTYPED: &str = "invalid function 0\n";
+
+pub const MALFORMED: &str = "malformed\n";
 
 /// Other bytes in the place of those from a start to an end, and the line and the status that are due
 /// to a call with this fuel.
@@ -166,7 +168,7 @@ const ROWS: [(&str, usize, usize, &[u8], &str, &str, u8); 21] = [
             0x0A, 0x0A, 0x01, 0x08, 0x00, 0x41, 0x80, 0x80, 0x80, 0x80, 0x38, 0x0B,
         ],
         "10",
-        NOT_BUILT,
+        MALFORMED,
         3,
     ),
     (
@@ -177,7 +179,7 @@ const ROWS: [(&str, usize, usize, &[u8], &str, &str, u8); 21] = [
             0x0A, 0x0B, 0x01, 0x09, 0x00, 0x41, 0xAA, 0x80, 0x80, 0x80, 0x80, 0x00, 0x0B,
         ],
         "10",
-        NOT_BUILT,
+        MALFORMED,
         3,
     ),
     (
@@ -195,7 +197,7 @@ const ROWS: [(&str, usize, usize, &[u8], &str, &str, u8); 21] = [
         37,
         &[0x0A, 0x07, 0x01, 0x05, 0x00, 0x41, 0x2A, 0x0B, 0x0B],
         "10",
-        NOT_BUILT,
+        MALFORMED,
         3,
     ),
     (
@@ -204,7 +206,7 @@ const ROWS: [(&str, usize, usize, &[u8], &str, &str, u8); 21] = [
         TYPES + 2,
         &[0x06],
         "10",
-        NOT_BUILT,
+        MALFORMED,
         3,
     ),
     (
@@ -216,7 +218,7 @@ const ROWS: [(&str, usize, usize, &[u8], &str, &str, u8); 21] = [
         NOT_BUILT,
         3,
     ),
-    ("a byte behind it", 37, 37, &[0x00], "10", NOT_BUILT, 3),
+    ("a byte behind it", 37, 37, &[0x00], "10", MALFORMED, 3),
 ];
 
 /// What the words answer over one file, and what they write where there is so much room.
@@ -239,7 +241,12 @@ pub fn answered(
 }
 
 /// The module with other bytes in the place of those from `start` to `end`.
-fn replaced(alloc: Global, start: usize, end: usize, other: &[u8]) -> Result<Vec<u8>, AllocError> {
+pub fn replaced(
+    alloc: Global,
+    start: usize,
+    end: usize,
+    other: &[u8],
+) -> Result<Vec<u8>, AllocError> {
     let mut bytes = Vec::new(alloc);
     bytes.extend_from_slice(ANSWER.get(..start).unwrap_or(&[]))?;
     bytes.extend_from_slice(other)?;
@@ -284,7 +291,13 @@ fn calls_of_modules(rt: HostRuntime) -> Result<(), Fail> {
             &ANSWER[..len],
             100,
         )?;
-        assert_eq!(rt; written.as_slice(), NOT_BUILT.as_bytes(), "{len} bytes");
+        // The header alone and the section of types behind it are modules.
+        let line = if len == TYPES || len == FUNCTIONS {
+            NOT_BUILT
+        } else {
+            MALFORMED
+        };
+        assert_eq!(rt; written.as_slice(), line.as_bytes(), "{len} bytes");
         assert_eq!(rt; answer, 3, "{len} bytes");
     }
     Ok(())
@@ -323,7 +336,7 @@ fn limits_of_a_call(rt: HostRuntime) -> Result<(), Fail> {
         (&most, "call done 65536 used 131071 output \n", 0),
         (&more, "call trap stack exhausted used 65537\n", 1),
         (&left, UNTYPED, 3),
-        (&full, NOT_BUILT, 3),
+        (&full, MALFORMED, 3),
         (&over, "too long\n", 3),
     ];
     for (file, line, status) in rows {
@@ -347,25 +360,31 @@ fn shelf(alloc: Global) -> Result<MemShelf, AllocError> {
 #[test]
 fn each_call_of_the_outside_fails_in_turn(rt: HostRuntime) -> Result<(), Fail> {
     let alloc = rt.alloc();
-    let words = owned(alloc, &["call", "m.wasm", "", "10"])?;
-    let rows: [(&[u32], &[u32], u8, &str); 6] = [
-        (&[0], &[], 4, "read fault\n"),
-        (&[1], &[], 4, "read fault\n"),
-        (&[2], &[], 4, "read fault\n"),
-        (&[3], &[1], 0, DONE),
-        (&[], &[0], 5, ""),
-        (&[0], &[0], 5, ""),
+    let commands: [(&[&str], &str); 2] = [
+        (&["call", "m.wasm", "", "10"], DONE),
+        (&["check", "m.wasm"], "valid\n"),
     ];
-    for (reads, writes, status, line) in rows {
-        let mut shelf = FailShelf::new(shelf(alloc)?, Vec::from_slice(alloc, reads)?);
-        let inner = MemSink::with_room(alloc, 100)?;
-        let mut out = FailSink::new(inner, Vec::from_slice(alloc, writes)?);
-        assert_eq!(rt;
-            answer(alloc, &words, &mut shelf, &mut out),
-            status,
-            "{reads:?}"
-        );
-        assert_eq!(rt; out.inner().bytes(), line.as_bytes(), "{reads:?}");
+    for (words, line) in commands {
+        let words = owned(alloc, words)?;
+        let rows: [(&[u32], &[u32], u8, &str); 6] = [
+            (&[0], &[], 4, "read fault\n"),
+            (&[1], &[], 4, "read fault\n"),
+            (&[2], &[], 4, "read fault\n"),
+            (&[3], &[1], 0, line),
+            (&[], &[0], 5, ""),
+            (&[0], &[0], 5, ""),
+        ];
+        for (reads, writes, status, line) in rows {
+            let mut shelf = FailShelf::new(shelf(alloc)?, Vec::from_slice(alloc, reads)?);
+            let inner = MemSink::with_room(alloc, 100)?;
+            let mut out = FailSink::new(inner, Vec::from_slice(alloc, writes)?);
+            assert_eq!(rt;
+                answer(alloc, &words, &mut shelf, &mut out),
+                status,
+                "{reads:?}"
+            );
+            assert_eq!(rt; out.inner().bytes(), line.as_bytes(), "{reads:?}");
+        }
     }
     Ok(())
 }

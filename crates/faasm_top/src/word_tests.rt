@@ -8,7 +8,7 @@ const USAGE: &str =
 
 #[test]
 fn words_give_line_and_status(rt: HostRuntime) -> Result<(), Fail> {
-    let rows: [(&[&str], usize, u8, &str); 29] = [
+    let rows: [(&[&str], usize, u8, &str); 31] = [
         (&["call", "m.wasm", "0aFf", "1"], 100, 0, DONE),
         (&["call", "m.wasm", "", "1099511627776"], 100, 0, DONE),
         (&["call", "absent", "", "10"], 100, 4, "read fault\n"),
@@ -24,7 +24,8 @@ fn words_give_line_and_status(rt: HostRuntime) -> Result<(), Fail> {
         (&["--help"], 100, 2, USAGE),
         (&["--version"], 100, 2, USAGE),
         (&["call", "m.wasm", "", "10", ""], 100, 2, USAGE),
-        (&["check", "absent"], 100, 3, NOT_BUILT),
+        (&["check", "m.wasm"], 100, 0, "valid\n"),
+        (&["check", "absent"], 100, 4, "read fault\n"),
         (&["check"], 100, 2, USAGE),
         (&["trace", "absent", "0"], 100, 3, NOT_BUILT),
         (
@@ -42,6 +43,7 @@ fn words_give_line_and_status(rt: HostRuntime) -> Result<(), Fail> {
         (&["load", "0"], 100, 2, USAGE),
         (&["call", "m.wasm", "", "10"], 9, 5, "call done"),
         (&["call", "absent", "", "10"], 0, 5, ""),
+        (&["check", "m.wasm"], 3, 5, "val"),
         (&["help", "m.wasm"], 5, 5, "usage"),
     ];
     for (words, room, status, line) in rows {

@@ -1,8 +1,9 @@
 //! The words of the program.
 
-ghost use Rattle.std.specs.Prelude.{◌≡◌, ◌≢◌, [], ◌∷◌, IfOk, IsErrOf};
+ghost use Rattle.std.specs.Prelude.{◌≡◌, ◌≢◌, [], ◌∷◌, IfOk, IsErrOf, option_copied};
 ghost use Rattle.faaslet_meaning.specs.Productions.{NoSpelling};
 ghost use Rattle.faaslet_meaning.specs.Words.{IsInput, IsNumber, CommandOf};
+ghost use Rattle.faasm_top.specs.Answers.{file_of};
 ghost use Rattle.faasm_top.specs.Commands.{texts, command_of};
 ghost use Rattle.faasm_top.specs.declared.words.WordsFault.TheVariants as fault;
 ghost use Rattle.hex.specs.declared.error.FromHexError.TheVariants as hex_fault;
@@ -39,6 +40,19 @@ pub enum Command<'w> {
     Load {
         count: u32,
     },
+}
+
+impl Command<'_> {
+    /// The file of a module that it reads.
+    pub fn file(&self) -> Option<&str>
+        ensures { option_copied result ≡ file_of (command_of self.now) }
+    {
+        match self {
+            Command::Check { file } => Some(*file),
+            Command::Call { file, .. } => Some(*file),
+            _ => None,
+        }
+    }
 }
 
 /// Why words were not read as a command.

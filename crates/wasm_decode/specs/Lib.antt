@@ -1,2 +1,5 @@
+pub mod Built
+pub mod Decoded
 pub mod Minimal
 pub mod Reading
+pub mod Sections

@@ -1,0 +1,17 @@
+pub mod Piles
+pub mod Opens
+pub mod Pops
+pub mod Taking
+pub mod Rows
+pub mod Turns
+pub mod Passing
+pub mod Contexts
+pub mod Copies
+pub mod Kept
+pub mod Distinct
+pub mod Images
+pub mod Plain
+pub mod Opening
+pub mod Choosing
+pub mod Closing
+pub mod Whole

@@ -1,0 +1,11 @@
+pub mod Stacks
+pub mod Gives
+pub mod Frames
+pub mod Opcodes
+pub mod Views
+pub mod Scopes
+pub mod Steps
+pub mod Admits
+pub mod Spaces
+pub mod Rules
+pub mod Causes

@@ -1,0 +1,25 @@
+//! Which modules are valid, by the rules of W3C WebAssembly Core Specification 1.0, section 3.
+#![tactic(auto)]
+
+mod blocks;
+mod bodies;
+mod body;
+mod branches;
+mod constants;
+mod fault;
+mod floats;
+mod instrs;
+mod invalid;
+mod kind;
+mod module_rules;
+mod names;
+mod opcodes;
+mod operands;
+mod rules;
+mod scope;
+mod spaces;
+mod stack;
+mod valid;
+
+pub use invalid::{Invalid, Refused};
+pub use valid::{ValidModule, validate};
