@@ -1,4 +1,4 @@
--- Worked rows without a question.
+-- Worked examples without a question.
 use Rattle.std.proofs.Common.{◌≡◌, ℕ, List, [], ◌∷◌, refl}
 use Rattle.std.specs.Prelude.{pos, negsuc}
 use Rattle.faaslet_meaning.specs.declared.instr.Instr.{Instr}

@@ -163,8 +163,9 @@ private_bytes (s ∷ ss) bytes =
     let rest = private_bytes ss (drop n bytes) in
     if is_private s.home then take n bytes ++ rest else rest
 
--- What is left where no replica is mapped: what is private, in one segment as at first. So two private segments never
--- touch, and with as many mappings as may be there are at most 33 segments.
+-- What is left where no replica is mapped: what is private, in one segment as at first. So in a list that `with_pages`,
+-- `with_map` and this one make of one private segment, no two private segments touch, and with as many mappings as may be
+-- it has at most 33 segments.
 abbrev pub unmapped : Memory → Memory
 unmapped m =
     record m {
@@ -193,6 +194,17 @@ pub record IsMemory (m : Memory) : Type 0 where
   pub within : private_pages m.segments ≤ m.quota
   pub mapped : mappings m ≤ mapping_limit
   pub places : All (λ s. HasPlace s.home) m.segments
+
+-- ---- What lies behind a memory, and no access changes: how many private pages it may have, for how many there is room, and
+-- the content that it is set back to.
+pub record Content : Type 0 where
+  pub pages : ℕ
+  pub bytes : List ℕ
+
+pub record Backing : Type 0 where
+  pub quota : ℕ
+  pub room : ℕ
+  pub last : Option Content
 
 -- ---- How the code names ranges and their pieces.
 

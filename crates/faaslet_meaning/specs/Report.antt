@@ -98,6 +98,16 @@ invalid_module = line (codes "invalid module")
 abbrev pub invalid_function : ℕ → List ℕ
 invalid_function k = line (codes "invalid function " ++ decimal k)
 
+-- the refusals of a valid module that a function may not have
+abbrev pub bad_import : ℕ → List ℕ
+bad_import k = line (codes "bad import " ++ decimal k)
+
+abbrev pub no_main : List ℕ
+no_main = line (codes "no main")
+
+abbrev pub bad_init : List ℕ
+bad_init = line (codes "bad init")
+
 -- what isn't built yet
 abbrev pub not_built : List ℕ
 not_built = line (codes "not built")

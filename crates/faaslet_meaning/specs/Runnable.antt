@@ -1,6 +1,6 @@
 -- What a module must have besides validity, so that a function may have it: it imports host calls alone, and exports `main`
 -- and perhaps `init`. This project's own.
-use Rattle.std.specs.Prelude.{◌≡◌, ℕ, ◌≤◌, List, [], ◌∷◌, Some, All, Contains, length, slice_get, codes}
+use Rattle.std.specs.Prelude.{◌≡◌, ℕ, ◌≤◌, List, [], ◌∷◌, Some, All, Contains, length, take, slice_get, codes}
 use Rattle.faaslet_meaning.specs.declared.instr.ValType.TheVariants.{I32}
 use Rattle.faaslet_meaning.specs.declared.module.Module.{Module}
 use Rattle.faaslet_meaning.specs.declared.module.FuncType.{FuncType}
@@ -35,7 +35,32 @@ pub record ExportsOwn (m : Module) (name : List ℕ) (t : FuncType) : Type 0 whe
 abbrev pub Named : List ℕ → Module → Type 0
 Named name m = (e : Export) × Contains m.exports e × (e.name ≡ name)
 
+abbrev pub MainFits : Module → Type 0
+MainFits m = ExportsOwn m (codes "main") (record { params = []; results = I32 ∷ [] })
+
+abbrev pub InitFits : Module → Type 0
+InitFits m = Named (codes "init") m → ExportsOwn m (codes "init") (record { params = []; results = [] })
+
 pub record Runnable (m : Module) : Type 0 where
   pub imports : HostImports m
-  pub main : ExportsOwn m (codes "main") (record { params = []; results = I32 ∷ [] })
-  pub init : Named (codes "init") m → ExportsOwn m (codes "init") (record { params = []; results = [] })
+  pub main : MainFits m
+  pub init : InitFits m
+
+-- Why a function may not have a module.
+pub data Unfit : Type 0 where
+  bad_import : (number : ℕ) → Unfit
+  no_main : Unfit
+  bad_init : Unfit
+
+-- the first import that is no host call
+pub record FirstBadImport (m : Module) (k : ℕ) : Type 0 where
+  pub one : Import
+  pub found : slice_get m.imports k ≡ Some one
+  pub bad : IsHostCall m one → ⊥
+  pub first : All (IsHostCall m) (take k m.imports)
+
+-- the first of these that applies
+abbrev pub IsUnfit : Unfit → Module → Type 0
+IsUnfit (bad_import k) m = FirstBadImport m k
+IsUnfit no_main m = HostImports m × (MainFits m → ⊥)
+IsUnfit bad_init m = HostImports m × MainFits m × (InitFits m → ⊥)

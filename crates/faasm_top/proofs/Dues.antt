@@ -4,32 +4,28 @@ use Rattle.std.specs.Prelude.{IfOk}
 use Rattle.std.specs.String.{string_bytes}
 use Rattle.fa_outside.specs.Files.{Files, IsFile}
 use Rattle.faaslet_meaning.specs.declared.module.Module.{Module}
+use Rattle.faaslet_meaning.specs.declared.outcome.Outcome.{Outcome}
 use Rattle.faaslet_meaning.specs.declared.outcome.Outcome.TheVariants as outcome
 use Rattle.faaslet_meaning.specs.Channels.{told_nothing}
 use Rattle.faaslet_meaning.specs.Decoding.{DecodesTo}
 use Rattle.faaslet_meaning.specs.Decoding as decoding
 use Rattle.faaslet_meaning.specs.Productions.{NoSpelling}
 use Rattle.faaslet_meaning.specs.Report as report
+use Rattle.faaslet_meaning.specs.Runnable.{Runnable, Unfit, IsUnfit}
 use Rattle.faaslet_meaning.specs.Runs.{Runs}
-use Rattle.faaslet_meaning.specs.Words.{Command, call, check, CommandOf, call_function}
-use Rattle.faaslet_meaning.proofs.OneModule.{one_module}
+use Rattle.faaslet_meaning.specs.Words.{Command, check, CommandOf, call_function}
 use Rattle.wasm_decode.specs.Decoded.{IsDecoded, limit_of}
 use Rattle.wasm_decode.specs.declared.fault.DecodeFault.{DecodeFault}
 use Rattle.wasm_decode.specs.declared.fault.DecodeFault.TheVariants as fault
-use Rattle.wasm_decode.specs.declared.instr.MinimalInstr.{MinimalInstr}
-use Rattle.wasm_decode.specs.Minimal.{IsMinimal, minimal_module}
 use Rattle.wasm_validate.specs.Causes.{IsCause}
 use Rattle.wasm_validate.specs.declared.invalid.Invalid.{Invalid}
 use Rattle.wasm_validate.specs.declared.invalid.Invalid.TheVariants as cause
 use Rattle.faasm_top.specs.declared.report.Report.{Report}
-use Rattle.faasm_top.specs.declared.run.Ending.{Ending}
-use Rattle.faasm_top.specs.declared.run.Ending.TheVariants.{Done, FuelOut, StackExhausted}
 use Rattle.faasm_top.specs.declared.words.Command as commands
 use Rattle.faasm_top.specs.declared.words.Command.TheVariants.{Check, Call, Trace, Run, Load}
-use Rattle.faasm_top.specs.Answers.{code_of, status_of, file_of, IsAccepted, IsRefusal, too_long, malformed, float, limit, invalid, untyped, ReadsFile, IsDue, valid, ran, refused, DueToModule}
+use Rattle.faasm_top.specs.Answers.{code_of, status_of, file_of, IsAccepted, IsRefusal, too_long, malformed, float, limit, invalid, untyped, ReadsFile, IsDue, valid, ran, unfit, other, DueToModule, DueToCalls}
 use Rattle.faasm_top.specs.Commands.{command_of}
-use Rattle.faasm_top.specs.Endings.{outcome_of}
-use Rattle.faasm_top.specs.Refusals.{undecoded_line, invalid_line}
+use Rattle.faasm_top.specs.Refusals.{undecoded_line, invalid_line, unfit_line}
 use Rattle.faasm_top.proofs.OneLine.{same_name}
 
 -- what holds of a status and a line holds of a report that has them
@@ -60,34 +56,23 @@ invalid_is cause.Want m bytes line d c e = absurd cc
 pub valid_due : (file bytes : List ℕ) (m : Module) → IsAccepted m bytes → DueToModule (check file) bytes 0 report.valid
 valid_due file bytes m accepted words told before after reads = valid (record { file = file; bytes = bytes; reads = reads; code = m; accepted = accepted }) refl refl
 
--- the module of bytes that spell a minimal one is that
-pub minimal_accepted : (code : List MinimalInstr) (m : Module) (bytes : List ℕ) → IsMinimal code bytes → IsAccepted m bytes → IsAccepted (minimal_module code) bytes
-minimal_accepted code m bytes minimal accepted = subst (λ n. IsAccepted n bytes) (one_module m (minimal_module code) bytes accepted.decodes.0.1 minimal.spells) accepted
+pub unfit_due : (m : Module) (fuel : ℕ) (u : Unfit) → IsUnfit u m → DueToCalls m fuel 3 (unfit_line u)
+unfit_due m fuel u p words told before after input calls = unfit (record { code = m; input = input; fuel = fuel; calls = calls; why = u; unfit = p; is_line = refl }) refl
 
--- what is due to a call, whatever its file and input
-abbrev pub DueToCall : ℕ → List ℕ → ℕ → List ℕ → Type 0
-DueToCall fuel bytes status line = (file input : List ℕ) → DueToModule (call file input fuel) bytes status line
+pub other_due : (m : Module) (fuel : ℕ) → Runnable m → (m.imports ≡ [] → ⊥) → DueToCalls m fuel 3 report.not_built
+other_due m fuel r some words told before after input calls = other (record { code = m; input = input; fuel = fuel; calls = calls; runnable = r; imports = some }) refl refl
 
-no_want : (e : Ending) → outcome_of e ≡ outcome.Want → ⊥
-no_want (Done v) e = cc
-no_want FuelOut e = cc
-no_want StackExhausted e = cc
-
-pub run_due : (fuel : ℕ) (bytes : List ℕ) (code : List MinimalInstr) (e : Ending) (used : ℕ) → IsMinimal code bytes → IsAccepted (minimal_module code) bytes
-    → ((input : List ℕ) → Runs (call_function (minimal_module code) fuel) input told_nothing (outcome_of e) [] used)
-    → DueToCall fuel bytes (status_of (outcome_of e)) (report.call_line (outcome_of e) [] used)
-run_due fuel bytes code e used minimal accepted runs file input words told before after reads =
+pub run_due : (m : Module) (fuel : ℕ) (o : Outcome) (used : ℕ) → Runnable m → m.imports ≡ [] → (o ≡ outcome.Want → ⊥) → ((input : List ℕ) → Runs (call_function m fuel) input told_nothing o [] used) → DueToCalls m fuel (status_of o) (report.call_line o [] used)
+run_due m fuel o used r none no_want runs words told before after input calls =
     ran (record {
-      file = file;
+      code = m;
       input = input;
       fuel = fuel;
-      bytes = bytes;
-      reads = reads;
-      code = code;
-      is_minimal = minimal;
-      accepted = accepted;
-      outcome = outcome_of e;
-      no_want = no_want e;
+      calls = calls;
+      runnable = r;
+      no_imports = none;
+      outcome = o;
+      no_want = no_want;
       output = [];
       used = used;
       runs = runs input;
@@ -105,10 +90,12 @@ check_due (Trace f n) bytes m r reads other_call accepted s l = absurd (reads re
 check_due (Run f) bytes m r reads other_call accepted s l = absurd (reads refl)
 check_due (Load n) bytes m r reads other_call accepted s l = absurd (reads refl)
 
-pub call_due : {E : Type 0} (c : commands.Command) (f : _) (i : List ℕ) (n : ℕ) (bytes : List ℕ) (r : Result Report E) → c ≡ Call f i n → IfOk r (λ x. (file input : List ℕ) → DueToModule (call file input n) bytes (code_of x.status) (string_bytes x.line))
+pub call_due : {E : Type 0} (c : commands.Command) (f : _) (i : List ℕ) (n : ℕ) (bytes : List ℕ) (m : Module) (r : Result Report E) → c ≡ Call f i n → IsAccepted m bytes → IfOk r (λ x. DueToCalls m n (code_of x.status) (string_bytes x.line))
     → IfOk r (λ x. DueToModule (command_of c) bytes (code_of x.status) (string_bytes x.line))
-call_due c f i n bytes (Ok x) is due = subst (λ d. DueToModule (command_of d) bytes (code_of x.status) (string_bytes x.line)) (sym is) (due f.now i)
-call_due c f i n bytes (Err e) is due = tt
+call_due c f i n bytes m (Ok x) is accepted due =
+    subst (λ d. DueToModule (command_of d) bytes (code_of x.status) (string_bytes x.line)) (sym is)
+    (λ words told before after reads. due words told before after i (record { file = f.now; bytes = bytes; reads = reads; accepted = accepted }))
+call_due c f i n bytes m (Err e) is accepted due = tt
 
 -- ---- commands
 

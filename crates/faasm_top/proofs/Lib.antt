@@ -1,7 +1,11 @@
+pub mod Alone
+pub mod Borders
+pub mod Calls
 pub mod Decimals
 pub mod Dues
+pub mod Events
 pub mod Inputs
-pub mod Machine
-pub mod Numbers
+pub mod Lengths
 pub mod OneLine
-pub mod Types
+pub mod Snapshots
+pub mod Unfits

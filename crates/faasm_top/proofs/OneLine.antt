@@ -9,14 +9,17 @@ use Rattle.faaslet_meaning.specs.Decoding.{Decoded, DecodesTo}
 use Rattle.faaslet_meaning.specs.Decoding as decoding
 use Rattle.faaslet_meaning.specs.Report as report
 use Rattle.faaslet_meaning.specs.Runs.{Runs}
+use Rattle.faaslet_meaning.specs.Productions.{NoSpelling}
+use Rattle.faaslet_meaning.specs.Runnable.{Runnable, IsUnfit}
 use Rattle.faaslet_meaning.specs.Valid.{RulesHold, FirstUntyped}
 use Rattle.faaslet_meaning.specs.Words.{Command, call, check, CommandOf, call_function}
 use Rattle.faaslet_meaning.proofs.OneAnswer.{one_answer}
 use Rattle.faaslet_meaning.proofs.OneCommand.{one_command}
+use Rattle.faaslet_meaning.proofs.OneModule.{one_module}
 use Rattle.faaslet_meaning.proofs.One.{one_run}
-use Rattle.wasm_decode.specs.Minimal.{IsMinimal, minimal_module}
-use Rattle.wasm_decode.proofs.MinimalLaws.{one_minimal}
-use Rattle.faasm_top.specs.Answers.{status_of, file_of, IsAccepted, IsRefusal, too_long, malformed, float, limit, invalid, untyped, Reads, ReadsFile, IsRun, IsRefused, IsLater, IsOther, IsDue, valid, ran, usage, refused, later, other, read_fault}
+use Rattle.faasm_top.specs.Answers.{status_of, file_of, IsAccepted, IsRefusal, too_long, malformed, float, limit, invalid, untyped, Reads, IsValid, ReadsFile, CallsModule, IsRun, IsUnfitCall, IsRefused, IsLater, IsOther, IsDue, valid, ran, usage, refused, later, unfit, other, read_fault}
+use Rattle.faasm_top.specs.Refusals.{unfit_line}
+use Rattle.faasm_top.proofs.Unfits.{one_reason, not_unfit}
 
 -- ---- the bytes of a file
 
@@ -101,16 +104,43 @@ same_bytes words files c d a b p q =
 lines : (o r : Outcome) (x y : List ℕ) (u v : ℕ) → o ≡ r → x ≡ y → u ≡ v → report.call_line o x u ≡ report.call_line r y v
 lines o r x y u v e f g = cc
 
+-- two calls of modules by one list of words are one
+same_calls : (words : List (List ℕ)) (files : Files) (m n : Module) (i j : List ℕ) (a b : ℕ) → CallsModule words (Some files) m i a → CallsModule words (Some files) n j b → (m ≡ n) × (i ≡ j) × (a ≡ b)
+same_calls words files m n i j a b p q =
+    let same = same_bytes words files (call p.file i a) (call q.file j b) p.bytes q.bytes p.reads q.reads in
+    let values = same_call p.file q.file i j a b same.0 in
+    let moved = subst (IsAccepted n) (sym same.1) q.accepted in
+    (one_module m n p.bytes p.accepted.decodes.0.1 moved.decodes.0.1, values.1, values.2)
+
 run_once : (words : List (List ℕ)) (files : Files) (s t : ℕ) (l m : List ℕ) → IsRun words (Some files) s l → IsRun words (Some files) t m → (s ≡ t) × (l ≡ m)
 run_once words files s t l m p q =
-    let same = same_bytes words files (call p.file p.input p.fuel) (call q.file q.input q.fuel) p.bytes q.bytes p.reads q.reads in
-    let values = same_call p.file q.file p.input q.input p.fuel q.fuel same.0 in
-    let codes = one_minimal p.code q.code p.bytes p.is_minimal (subst (IsMinimal q.code) (sym same.1) q.is_minimal) in
-    let again = subst (λ c. Runs (call_function (minimal_module c) p.fuel) p.input told_nothing q.outcome q.output q.used) (sym codes)
-    (subst (λ n. Runs (call_function (minimal_module q.code) n) p.input told_nothing q.outcome q.output q.used) (sym values.2)
-    (subst (λ i. Runs (call_function (minimal_module q.code) q.fuel) i told_nothing q.outcome q.output q.used) (sym values.1) q.runs)) in
-    let ends = one_run (call_function (minimal_module p.code) p.fuel) p.input told_nothing told_nothing p.outcome q.outcome p.output q.output p.used q.used p.no_want q.no_want (λ ch. refl) p.runs again in
+    let same = same_calls words files p.code q.code p.input q.input p.fuel q.fuel p.calls q.calls in
+    let again = subst (λ c. Runs (call_function c p.fuel) p.input told_nothing q.outcome q.output q.used) (sym same.0)
+    (subst (λ n. Runs (call_function q.code n) p.input told_nothing q.outcome q.output q.used) (sym same.2)
+    (subst (λ i. Runs (call_function q.code q.fuel) i told_nothing q.outcome q.output q.used) (sym same.1) q.runs)) in
+    let ends = one_run (call_function p.code p.fuel) p.input told_nothing told_nothing p.outcome q.outcome p.output q.output p.used q.used p.no_want q.no_want (λ ch. refl) p.runs again in
     (p.is_status ∙ ap status_of ends.0 ∙ sym q.is_status, p.is_line ∙ lines p.outcome q.outcome p.output q.output p.used q.used ends.0 ends.1 ends.2 ∙ sym q.is_line)
+
+unfit_once : (words : List (List ℕ)) (files : Files) (l m : List ℕ) → IsUnfitCall words (Some files) l → IsUnfitCall words (Some files) m → l ≡ m
+unfit_once words files l m p q =
+    let same = same_calls words files p.code q.code p.input q.input p.fuel q.fuel p.calls q.calls in
+    p.is_line ∙ ap unfit_line (one_reason p.code p.why q.why p.unfit (subst (IsUnfit q.why) (sym same.0) q.unfit)) ∙ sym q.is_line
+
+-- a module that a function may have is not unfit, and has imports or none
+ran_unfit : (words : List (List ℕ)) (files : Files) (s : ℕ) (l m : List ℕ) → IsRun words (Some files) s l → IsUnfitCall words (Some files) m → ⊥
+ran_unfit words files s l m p q =
+    let same = same_calls words files p.code q.code p.input q.input p.fuel q.fuel p.calls q.calls in
+    not_unfit q.code q.why (subst Runnable same.0 p.runnable) q.unfit
+
+other_unfit : (words : List (List ℕ)) (files : Files) (l : List ℕ) → IsOther words (Some files) → IsUnfitCall words (Some files) l → ⊥
+other_unfit words files l p q =
+    let same = same_calls words files p.code q.code p.input q.input p.fuel q.fuel p.calls q.calls in
+    not_unfit q.code q.why (subst Runnable same.0 p.runnable) q.unfit
+
+ran_other : (words : List (List ℕ)) (files : Files) (s : ℕ) (l : List ℕ) → IsRun words (Some files) s l → IsOther words (Some files) → ⊥
+ran_other words files s l p q =
+    let same = same_calls words files p.code q.code p.input q.input p.fuel q.fuel p.calls q.calls in
+    q.imports (ap (λ (m : Module). m.imports) (sym same.0) ∙ p.no_imports)
 
 -- bytes of one reading are accepted, and those of another refused
 split : (words : List (List ℕ)) (files : Files) (c : Command) (bytes line : List ℕ) (m : Module) → Reads words (Some files) c bytes → IsAccepted m bytes → IsRefused words (Some files) line → ⊥
@@ -129,11 +159,18 @@ built words told c bytes reads q =
 apart : {A : Type 0} (words : List (List ℕ)) (told : Option Files) (f g i a b : List ℕ) (n : ℕ) → Reads words told (check f) a → Reads words told (call g i n) b → A
 apart words told f g i a b n p q = check_call f g i n (one_command words (check f) (call g i n) p.is_command q.is_command)
 
--- a minimal module is not another
-minimal : (words : List (List ℕ)) (files : Files) (s : ℕ) (l : List ℕ) → IsRun words (Some files) s l → IsOther words (Some files) → ⊥
-minimal words files s l p q =
-    let same = same_bytes words files (call p.file p.input p.fuel) (call q.file q.input q.fuel) p.bytes q.bytes p.reads q.reads in
-    q.not_minimal.none p.code (subst (IsMinimal p.code) same.1 p.is_minimal)
+-- a module that `call` reads is not refused, and is no file of `check`
+call_split : (words : List (List ℕ)) (files : Files) (m : Module) (input line : List ℕ) (fuel : ℕ) → CallsModule words (Some files) m input fuel → IsRefused words (Some files) line → ⊥
+call_split words files m input line fuel p q = split words files (call p.file input fuel) p.bytes line m p.reads p.accepted q
+
+call_built : (words : List (List ℕ)) (told : Option Files) (m : Module) (input : List ℕ) (fuel : ℕ) → CallsModule words told m input fuel → IsLater words → ⊥
+call_built words told m input fuel p q = built words told (call p.file input fuel) p.bytes p.reads q
+
+call_apart : {A : Type 0} (words : List (List ℕ)) (told : Option Files) (m : Module) (input : List ℕ) (fuel : ℕ) → IsValid words told → CallsModule words told m input fuel → A
+call_apart words told m input fuel p q = apart words told p.file q.file input p.bytes q.bytes fuel p.reads q.reads
+
+call_words : (words : List (List ℕ)) (told : Option Files) (m : Module) (input : List ℕ) (fuel : ℕ) → NoSpelling CommandOf words → CallsModule words told m input fuel → ⊥
+call_words words told m input fuel none p = none.none (call p.file input fuel) p.reads.is_command
 
 refused_once : (words : List (List ℕ)) (files : Files) (l m : List ℕ) → IsRefused words (Some files) l → IsRefused words (Some files) m → l ≡ m
 refused_once words files l m p q =
@@ -145,38 +182,51 @@ pub one_line : (words : List (List ℕ)) (files : Files) (before after s t : ℕ
 one_line words files before after s t l m calm (read_fault p a b) q = absurd (calm p.rose)
 one_line words files before after s t l m calm p (read_fault q c d) = absurd (calm q.rose)
 one_line words files before after s t l m calm (valid p a b) (valid q c d) = (a ∙ sym c, b ∙ sym d)
-one_line words files before after s t l m calm (valid p a b) (ran q) = apart words (Some files) p.file q.file q.input p.bytes q.bytes q.fuel p.reads q.reads
-one_line words files before after s t l m calm (valid p a b) (usage none c d) = absurd (none.none (check p.file) p.reads.is_command)
+one_line words files before after s t l m calm (valid p a b) (ran q) = call_apart words (Some files) q.code q.input q.fuel p q.calls
+one_line words files before after s t l m calm (valid p a b) (usage q c d) = absurd (q.none (check p.file) p.reads.is_command)
 one_line words files before after s t l m calm (valid p a b) (refused q c) = absurd (split words files (check p.file) p.bytes m p.code p.reads p.accepted q)
 one_line words files before after s t l m calm (valid p a b) (later q c d) = absurd (built words (Some files) (check p.file) p.bytes p.reads q)
-one_line words files before after s t l m calm (valid p a b) (other q c d) = apart words (Some files) p.file q.file q.input p.bytes q.bytes q.fuel p.reads q.reads
-one_line words files before after s t l m calm (ran p) (valid q c d) = apart words (Some files) q.file p.file p.input q.bytes p.bytes p.fuel q.reads p.reads
+one_line words files before after s t l m calm (valid p a b) (unfit q c) = call_apart words (Some files) q.code q.input q.fuel p q.calls
+one_line words files before after s t l m calm (valid p a b) (other q c d) = call_apart words (Some files) q.code q.input q.fuel p q.calls
+one_line words files before after s t l m calm (ran p) (valid q c d) = call_apart words (Some files) p.code p.input p.fuel q p.calls
 one_line words files before after s t l m calm (ran p) (ran q) = run_once words files s t l m p q
-one_line words files before after s t l m calm (ran p) (usage none c d) = absurd (none.none (call p.file p.input p.fuel) p.reads.is_command)
-one_line words files before after s t l m calm (ran p) (refused q c) = absurd (split words files (call p.file p.input p.fuel) p.bytes m (minimal_module p.code) p.reads p.accepted q)
-one_line words files before after s t l m calm (ran p) (later q c d) = absurd (built words (Some files) (call p.file p.input p.fuel) p.bytes p.reads q)
-one_line words files before after s t l m calm (ran p) (other q c d) = absurd (minimal words files s l p q)
-one_line words files before after s t l m calm (usage none a b) (valid q c d) = absurd (none.none (check q.file) q.reads.is_command)
-one_line words files before after s t l m calm (usage none a b) (ran q) = absurd (none.none (call q.file q.input q.fuel) q.reads.is_command)
-one_line words files before after s t l m calm (usage none a b) (usage also c d) = (a ∙ sym c, b ∙ sym d)
-one_line words files before after s t l m calm (usage none a b) (refused q c) = absurd (none.none q.command q.reads.is_command)
-one_line words files before after s t l m calm (usage none a b) (later q c d) = absurd (none.none q.command q.is_command)
-one_line words files before after s t l m calm (usage none a b) (other q c d) = absurd (none.none (call q.file q.input q.fuel) q.reads.is_command)
+one_line words files before after s t l m calm (ran p) (usage q c d) = absurd (call_words words (Some files) p.code p.input p.fuel q p.calls)
+one_line words files before after s t l m calm (ran p) (refused q c) = absurd (call_split words files p.code p.input m p.fuel p.calls q)
+one_line words files before after s t l m calm (ran p) (later q c d) = absurd (call_built words (Some files) p.code p.input p.fuel p.calls q)
+one_line words files before after s t l m calm (ran p) (unfit q c) = absurd (ran_unfit words files s l m p q)
+one_line words files before after s t l m calm (ran p) (other q c d) = absurd (ran_other words files s l p q)
+one_line words files before after s t l m calm (usage p a b) (valid q c d) = absurd (p.none (check q.file) q.reads.is_command)
+one_line words files before after s t l m calm (usage p a b) (ran q) = absurd (call_words words (Some files) q.code q.input q.fuel p q.calls)
+one_line words files before after s t l m calm (usage p a b) (usage q c d) = (a ∙ sym c, b ∙ sym d)
+one_line words files before after s t l m calm (usage p a b) (refused q c) = absurd (p.none q.command q.reads.is_command)
+one_line words files before after s t l m calm (usage p a b) (later q c d) = absurd (p.none q.command q.is_command)
+one_line words files before after s t l m calm (usage p a b) (unfit q c) = absurd (call_words words (Some files) q.code q.input q.fuel p q.calls)
+one_line words files before after s t l m calm (usage p a b) (other q c d) = absurd (call_words words (Some files) q.code q.input q.fuel p q.calls)
 one_line words files before after s t l m calm (refused p a) (valid q c d) = absurd (split words files (check q.file) q.bytes l q.code q.reads q.accepted p)
-one_line words files before after s t l m calm (refused p a) (ran q) = absurd (split words files (call q.file q.input q.fuel) q.bytes l (minimal_module q.code) q.reads q.accepted p)
-one_line words files before after s t l m calm (refused p a) (usage none c d) = absurd (none.none p.command p.reads.is_command)
+one_line words files before after s t l m calm (refused p a) (ran q) = absurd (call_split words files q.code q.input l q.fuel q.calls p)
+one_line words files before after s t l m calm (refused p a) (usage q c d) = absurd (q.none p.command p.reads.is_command)
 one_line words files before after s t l m calm (refused p a) (refused q c) = (a ∙ sym c, refused_once words files l m p q)
 one_line words files before after s t l m calm (refused p a) (later q c d) = absurd (built words (Some files) p.command p.bytes p.reads q)
-one_line words files before after s t l m calm (refused p a) (other q c d) = absurd (split words files (call q.file q.input q.fuel) q.bytes l q.code q.reads q.accepted p)
+one_line words files before after s t l m calm (refused p a) (unfit q c) = absurd (call_split words files q.code q.input l q.fuel q.calls p)
+one_line words files before after s t l m calm (refused p a) (other q c d) = absurd (call_split words files q.code q.input l q.fuel q.calls p)
 one_line words files before after s t l m calm (later p a b) (valid q c d) = absurd (built words (Some files) (check q.file) q.bytes q.reads p)
-one_line words files before after s t l m calm (later p a b) (ran q) = absurd (built words (Some files) (call q.file q.input q.fuel) q.bytes q.reads p)
-one_line words files before after s t l m calm (later p a b) (usage none c d) = absurd (none.none p.command p.is_command)
+one_line words files before after s t l m calm (later p a b) (ran q) = absurd (call_built words (Some files) q.code q.input q.fuel q.calls p)
+one_line words files before after s t l m calm (later p a b) (usage q c d) = absurd (q.none p.command p.is_command)
 one_line words files before after s t l m calm (later p a b) (refused q c) = absurd (built words (Some files) q.command q.bytes q.reads p)
 one_line words files before after s t l m calm (later p a b) (later q c d) = (a ∙ sym c, b ∙ sym d)
+one_line words files before after s t l m calm (later p a b) (unfit q c) = absurd (call_built words (Some files) q.code q.input q.fuel q.calls p)
 one_line words files before after s t l m calm (later p a b) (other q c d) = (a ∙ sym c, b ∙ sym d)
-one_line words files before after s t l m calm (other p a b) (valid q c d) = apart words (Some files) q.file p.file p.input q.bytes p.bytes p.fuel q.reads p.reads
-one_line words files before after s t l m calm (other p a b) (ran q) = absurd (minimal words files t m q p)
-one_line words files before after s t l m calm (other p a b) (usage none c d) = absurd (none.none (call p.file p.input p.fuel) p.reads.is_command)
-one_line words files before after s t l m calm (other p a b) (refused q c) = absurd (split words files (call p.file p.input p.fuel) p.bytes m p.code p.reads p.accepted q)
+one_line words files before after s t l m calm (unfit p a) (valid q c d) = call_apart words (Some files) p.code p.input p.fuel q p.calls
+one_line words files before after s t l m calm (unfit p a) (ran q) = absurd (ran_unfit words files t m l q p)
+one_line words files before after s t l m calm (unfit p a) (usage q c d) = absurd (call_words words (Some files) p.code p.input p.fuel q p.calls)
+one_line words files before after s t l m calm (unfit p a) (refused q c) = absurd (call_split words files p.code p.input m p.fuel p.calls q)
+one_line words files before after s t l m calm (unfit p a) (later q c d) = absurd (call_built words (Some files) p.code p.input p.fuel p.calls q)
+one_line words files before after s t l m calm (unfit p a) (unfit q c) = (a ∙ sym c, unfit_once words files l m p q)
+one_line words files before after s t l m calm (unfit p a) (other q c d) = absurd (other_unfit words files l q p)
+one_line words files before after s t l m calm (other p a b) (valid q c d) = call_apart words (Some files) p.code p.input p.fuel q p.calls
+one_line words files before after s t l m calm (other p a b) (ran q) = absurd (ran_other words files t m q p)
+one_line words files before after s t l m calm (other p a b) (usage q c d) = absurd (call_words words (Some files) p.code p.input p.fuel q p.calls)
+one_line words files before after s t l m calm (other p a b) (refused q c) = absurd (call_split words files p.code p.input m p.fuel p.calls q)
 one_line words files before after s t l m calm (other p a b) (later q c d) = (a ∙ sym c, b ∙ sym d)
+one_line words files before after s t l m calm (other p a b) (unfit q c) = absurd (other_unfit words files m p q)
 one_line words files before after s t l m calm (other p a b) (other q c d) = (a ∙ sym c, b ∙ sym d)

@@ -1,5 +1,6 @@
 -- What is due to the words and the files: a line, and the status that goes with it. This project's own.
--- PROVISIONAL: of the commands `check` and `call` do their work, and of the valid modules those that are minimal run.
+-- PROVISIONAL: of the commands `check` and `call` do their work, and of the modules that a function may have those without
+-- imports run.
 use Rattle.std.specs.Prelude.{◌≡◌, ◌≢◌, ℕ, ◌≤◌, Bool, false, List, [], Option, Some, None, IsSome, IsTrue}
 use Rattle.fa_outside.specs.Appended.{Appends, AppendsPart}
 use Rattle.fa_outside.specs.Faults.{Rose}
@@ -12,13 +13,13 @@ use Rattle.faaslet_meaning.specs.Decoding.{Limit, DecodesTo}
 use Rattle.faaslet_meaning.specs.Decoding as decoding
 use Rattle.faaslet_meaning.specs.Productions.{NoSpelling}
 use Rattle.faaslet_meaning.specs.Report as report
+use Rattle.faaslet_meaning.specs.Runnable.{Runnable, Unfit, IsUnfit}
 use Rattle.faaslet_meaning.specs.Runs.{Runs}
 use Rattle.faaslet_meaning.specs.Valid.{RulesHold, FirstUntyped, Valid}
-use Rattle.faaslet_meaning.specs.Words.{Command, check, call, run, CommandOf, call_function}
-use Rattle.wasm_decode.specs.declared.instr.MinimalInstr.{MinimalInstr}
-use Rattle.wasm_decode.specs.Minimal.{IsMinimal, minimal_module}
+use Rattle.faaslet_meaning.specs.Words.{Command, check, call, CommandOf, call_function}
 use Rattle.faasm_top.specs.declared.report.Status.{Status}
 use Rattle.faasm_top.specs.declared.report.Status.TheVariants.{Done, NotDone, Usage, Refused, ShelfFailed, SinkFailed, Want}
+use Rattle.faasm_top.specs.Refusals.{unfit_line}
 
 -- the statuses
 abbrev pub code_of : Status → ℕ
@@ -84,23 +85,38 @@ pub record IsValid (words : List (List ℕ)) (told : Option Files) : Type 0 wher
   pub code : Module
   pub accepted : IsAccepted code bytes
 
--- `call` of a file that holds a valid minimal module: the line of what its run comes to
-pub record IsRun (words : List (List ℕ)) (told : Option Files) (status : ℕ) (line : List ℕ) : Type 0 where
+-- the words are `call` with this input and fuel, and its file holds this valid module
+pub record CallsModule (words : List (List ℕ)) (told : Option Files) (code : Module) (input : List ℕ) (fuel : ℕ) : Type 0 where
   pub file : List ℕ
-  pub input : List ℕ
-  pub fuel : ℕ
   pub bytes : List ℕ
   pub reads : Reads words told (call file input fuel) bytes
-  pub code : List MinimalInstr
-  pub is_minimal : IsMinimal code bytes
-  pub accepted : IsAccepted (minimal_module code) bytes
+  pub accepted : IsAccepted code bytes
+
+-- `call` of a module without imports that a function may have: the line of what its run comes to
+pub record IsRun (words : List (List ℕ)) (told : Option Files) (status : ℕ) (line : List ℕ) : Type 0 where
+  pub code : Module
+  pub input : List ℕ
+  pub fuel : ℕ
+  pub calls : CallsModule words told code input fuel
+  pub runnable : Runnable code
+  pub no_imports : code.imports ≡ []
   pub outcome : Outcome
   pub no_want : outcome ≢ outcomes.Want
   pub output : List ℕ
   pub used : ℕ
-  pub runs : Runs (call_function (minimal_module code) fuel) input told_nothing outcome output used
+  pub runs : Runs (call_function code fuel) input told_nothing outcome output used
   pub is_line : line ≡ report.call_line outcome output used
   pub is_status : status ≡ status_of outcome
+
+-- `call` of a module that a function may not have: the line of the first reason
+pub record IsUnfitCall (words : List (List ℕ)) (told : Option Files) (line : List ℕ) : Type 0 where
+  pub code : Module
+  pub input : List ℕ
+  pub fuel : ℕ
+  pub calls : CallsModule words told code input fuel
+  pub why : Unfit
+  pub unfit : IsUnfit why code
+  pub is_line : line ≡ unfit_line why
 
 -- `check` or `call` of a file that is refused
 pub record IsRefused (words : List (List ℕ)) (told : Option Files) (line : List ℕ) : Type 0 where
@@ -115,16 +131,14 @@ pub record IsLater (words : List (List ℕ)) : Type 0 where
   pub is_command : CommandOf command words
   pub no_file : file_of command ≡ None
 
--- `call` of a file that holds a valid module, which isn't minimal
+-- `call` of a module with imports that a function may have
 pub record IsOther (words : List (List ℕ)) (told : Option Files) : Type 0 where
-  pub file : List ℕ
+  pub code : Module
   pub input : List ℕ
   pub fuel : ℕ
-  pub bytes : List ℕ
-  pub reads : Reads words told (call file input fuel) bytes
-  pub code : Module
-  pub accepted : IsAccepted code bytes
-  pub not_minimal : NoSpelling IsMinimal bytes
+  pub calls : CallsModule words told code input fuel
+  pub runnable : Runnable code
+  pub imports : code.imports ≢ []
 
 -- `check` or `call`, and the shelf's count rose
 pub record IsReadFault (words : List (List ℕ)) (before after : ℕ) : Type 0 where
@@ -138,6 +152,7 @@ pub data IsDue (words : List (List ℕ)) (told : Option Files) (before after : �
   usage : NoSpelling CommandOf words → status ≡ 2 → line ≡ report.usage → IsDue words told before after status line
   refused : IsRefused words told line → status ≡ 3 → IsDue words told before after status line
   later : IsLater words → status ≡ 3 → line ≡ report.not_built → IsDue words told before after status line
+  unfit : IsUnfitCall words told line → status ≡ 3 → IsDue words told before after status line
   other : IsOther words told → status ≡ 3 → line ≡ report.not_built → IsDue words told before after status line
   read_fault : IsReadFault words before after → status ≡ 4 → line ≡ report.read_fault → IsDue words told before after status line
 
@@ -145,6 +160,11 @@ pub data IsDue (words : List (List ℕ)) (told : Option Files) (before after : �
 abbrev pub DueToModule : Command → List ℕ → ℕ → List ℕ → Type 0
 DueToModule command bytes status line =
     (words : List (List ℕ)) (told : Option Files) (before after : ℕ) → Reads words told command bytes → IsDue words told before after status line
+
+-- whatever the words that are `call` with this fuel, where their file holds this valid module
+abbrev pub DueToCalls : Module → ℕ → ℕ → List ℕ → Type 0
+DueToCalls code fuel status line =
+    (words : List (List ℕ)) (told : Option Files) (before after : ℕ) (input : List ℕ) → CallsModule words told code input fuel → IsDue words told before after status line
 
 -- the line that is due was written whole, and the status is its own
 pub record WritesWhole (words : List (List ℕ)) (told : Option Files) (before after : ℕ) (old new : Option (List ℕ)) (status : ℕ) : Type 0 where

@@ -1,6 +1,4 @@
 pub mod Answers
 pub mod Commands
-pub mod Endings
-pub mod Heights
-pub mod Operands
+pub mod FreshCall
 pub mod Refusals

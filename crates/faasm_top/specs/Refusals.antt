@@ -1,6 +1,8 @@
--- The lines of the refusals of `decode` and `validate`; want of memory has none. This project's own.
+-- The lines of the refusals of `decode` and `validate`, where want of memory has none, and of modules that a function may
+-- not have. This project's own.
 use Rattle.std.specs.Prelude.{ℕ, List, Option, Some, None}
 use Rattle.faaslet_meaning.specs.Report as report
+use Rattle.faaslet_meaning.specs.Runnable.{Unfit, bad_import, no_main, bad_init}
 use Rattle.wasm_decode.specs.Decoded.{limit_of}
 use Rattle.wasm_decode.specs.declared.fault.DecodeFault.{DecodeFault}
 use Rattle.wasm_decode.specs.declared.fault.DecodeFault.TheVariants as fault
@@ -18,3 +20,8 @@ abbrev pub invalid_line : Invalid → Option (List ℕ)
 invalid_line invalid.Module = Some report.invalid_module
 invalid_line (invalid.Function k) = Some (report.invalid_function k)
 invalid_line invalid.Want = None
+
+abbrev pub unfit_line : Unfit → List ℕ
+unfit_line (bad_import k) = report.bad_import k
+unfit_line no_main = report.no_main
+unfit_line bad_init = report.bad_init

@@ -4,17 +4,20 @@ ghost use Rattle.std.specs.Prelude.{◌≡◌, ℕ, ◌<◌, ◌≤◌, ◌≢�
 ghost use Rattle.std.specs.String.{string_bytes};
 ghost use Rattle.fa_outside.specs.Faults.{Rose};
 ghost use Rattle.fa_outside.specs.Files.{Files};
-ghost use Rattle.faaslet_meaning.specs.Words.{call, CommandOf};
-ghost use Rattle.faasm_top.specs.Answers.{code_of, file_of, IsAccepted, IsRefusal, ReadsFile, IsDue, DueToModule, WritesWhole, WritesPart};
+ghost use Rattle.faaslet_meaning.specs.Decoding.{first_passed};
+ghost use Rattle.faaslet_meaning.specs.Words.{CommandOf};
+ghost use Rattle.faasm_top.specs.Answers.{code_of, file_of, IsAccepted, IsRefusal, ReadsFile, IsDue, DueToModule, DueToCalls, WritesWhole, WritesPart};
 ghost use Rattle.faasm_top.specs.Commands.{texts, command_of};
 
-use crate::refusals::{invalid, undecoded};
-use crate::report::{Report, Status, not_built, ran, read_fault, usage, valid};
+use crate::outcomes::ended;
+use crate::refusals::{invalid, undecoded, unfit};
+use crate::report::{Report, Status, not_built, read_fault, usage, valid};
 use crate::run::run;
 use crate::words::{Command, WordsFault, read_words};
 use fa_outside::{Failed, ReadFault, Shelf, Sink, read_file, write_whole};
+use function_rules::fits;
 use std::alloc::{AllocError, Global};
-use wasm_decode::{DecodeFault, decode, read_minimal};
+use wasm_decode::{DecodeFault, decode};
 use wasm_validate::{ValidModule, validate};
 
 /// The bytes of a module file.
@@ -36,22 +39,20 @@ fn read_valid(alloc: Global, bytes: &[u8]) -> Result<Result<ValidModule, Report>
     }
 }
 
-/// Answers a call of the valid module in these bytes, whatever its input.
-fn call_module(
-    alloc: Global,
-    bytes: &[u8],
-    module: &ValidModule,
-    fuel: u64,
-) -> Result<Report, AllocError>
-    requires { IsAccepted «module».now bytes.now }
-    ensures due { IfOk result (λ r. (file input : List ℕ)
-        → DueToModule (call file input fuel) bytes.now (code_of r.status) (string_bytes r.line)) }
+/// Answers a call of a valid module, whatever its input.
+fn call_module(alloc: Global, module: &ValidModule, fuel: u64) -> Result<Report, AllocError>
+    requires { first_passed «module».now ≡ None }
+    ensures due { IfOk result (λ r. DueToCalls «module».now fuel (code_of r.status) (string_bytes r.line)) }
     ensures no_fault { IfOk result (λ r. code_of r.status ≢ 4) }
 {
-    let Some(code) = read_minimal(alloc, bytes)? else {
+    if let Err(why) = fits(module) {
+        return unfit(alloc, why);
+    }
+    if !module.module().imports.as_slice().is_empty() {
         return not_built(alloc);
-    };
-    ran(alloc, &run(alloc, code.as_slice(), fuel)?)
+    }
+    let ran = run(alloc, module, fuel)?;
+    ended(alloc, ran.outcome, ran.used)
 }
 
 /// Answers a command that reads a file with these bytes.
@@ -66,7 +67,7 @@ fn answer_module(alloc: Global, bytes: &[u8], command: &Command<'_>) -> Result<R
         Err(report) => return Ok(report),
     };
     match command {
-        Command::Call { fuel, .. } => call_module(alloc, bytes, &module, *fuel),
+        Command::Call { fuel, .. } => call_module(alloc, &module, *fuel),
         _ => valid(alloc),
     }
 }

@@ -2,7 +2,8 @@
 #![tactic(auto)]
 
 mod commands;
-mod operands;
+mod finish;
+mod outcomes;
 mod refusals;
 mod report;
 mod run;
@@ -13,7 +14,13 @@ pub use report::Status;
 pub use words::{Command, WordsFault, read_words};
 
 #[cfg(test)]
+mod call_tests;
+#[cfg(test)]
 mod check_tests;
+#[cfg(test)]
+mod host_tests;
+#[cfg(test)]
+mod piece_tests;
 #[cfg(test)]
 mod tests;
 #[cfg(test)]

@@ -1,12 +1,10 @@
 //! Lines and statuses.
 
-ghost use Rattle.std.specs.Prelude.{◌≡◌, [], IfOk};
+ghost use Rattle.std.specs.Prelude.{◌≡◌, IfOk};
 ghost use Rattle.std.specs.String.{string_bytes};
 ghost use Rattle.faaslet_meaning.specs.Report as report;
-ghost use Rattle.faasm_top.specs.Answers.{code_of, status_of};
-ghost use Rattle.faasm_top.specs.Endings.{outcome_of};
+ghost use Rattle.faasm_top.specs.Answers.{code_of};
 
-use crate::run::{Ending, Ran};
 use std::alloc::{AllocError, Global};
 
 /// How the program ends.
@@ -14,7 +12,7 @@ use std::alloc::{AllocError, Global};
 pub enum Status {
     /// The module is valid, or the call came to its end.
     Done = 0,
-    /// It trapped, or spent its fuel.
+    /// It trapped, spent its fuel or could not begin.
     NotDone = 1,
     /// The words are no command.
     Usage = 2,
@@ -42,45 +40,6 @@ impl Status {
 pub struct Report {
     pub status: Status,
     pub line: String,
-}
-
-/// The line of a run to its end, without output.
-fn done_line(alloc: Global, value: u32, used: u64) -> Result<String, AllocError>
-    ensures { IfOk result (λ l.
-        string_bytes l ≡ report.call_line (outcome_of (Ending.Done value)) [] used) }
-{
-    let code = value.cast_signed();
-    Ok(format!(in alloc; "call done {code} used {used} output \n")?)
-}
-
-/// The line of a run that found no room for a value.
-fn exhausted_line(alloc: Global, used: u64) -> Result<String, AllocError>
-    ensures { IfOk result (λ l.
-        string_bytes l ≡ report.call_line (outcome_of Ending.StackExhausted) [] used) }
-{
-    format!(in alloc; "call trap stack exhausted used {used}\n")
-}
-
-/// What a run came to.
-pub fn ran(alloc: Global, ran: &Ran) -> Result<Report, AllocError>
-    ensures status { IfOk result (λ r. code_of r.status ≡ status_of (outcome_of ran.now.ending)) }
-    ensures line { IfOk result (λ r. string_bytes r.line
-        ≡ report.call_line (outcome_of ran.now.ending) [] ran.now.used) }
-{
-    match ran.ending {
-        Ending::Done(value) => Ok(Report {
-            status: Status::Done,
-            line: done_line(alloc, value, ran.used)?,
-        }),
-        Ending::FuelOut => Ok(Report {
-            status: Status::NotDone,
-            line: String::from_str(alloc, "call fuel\n")?,
-        }),
-        Ending::StackExhausted => Ok(Report {
-            status: Status::NotDone,
-            line: exhausted_line(alloc, ran.used)?,
-        }),
-    }
 }
 
 /// A line that stands fixed.

@@ -1,59 +1,64 @@
-//! Runs of minimal modules.
+//! Calls of modules.
 
-ghost use Rattle.std.specs.Prelude.{◌≡◌, ℕ, ◌≤◌, List, [], Some, IfOk};
+ghost use Rattle.std.specs.Prelude.{◌≡◌, ◌≢◌, ◌≤◌, ℕ, List, [], None, IfOk};
 ghost use Rattle.faaslet_meaning.specs.Channels.{told_nothing};
+ghost use Rattle.faaslet_meaning.specs.Decoding.{first_passed};
+ghost use Rattle.faaslet_meaning.specs.Runnable.{HostImports, Runnable};
 ghost use Rattle.faaslet_meaning.specs.Runs.{Runs};
+ghost use Rattle.faaslet_meaning.specs.Valid.{Valid};
 ghost use Rattle.faaslet_meaning.specs.Words.{call_function};
-ghost use Rattle.wasm_decode.specs.Minimal.{minimal_module};
-ghost use Rattle.faasm_top.specs.Endings.{outcome_of};
-ghost use Rattle.faasm_top.specs.Heights.{height_after};
+ghost use Rattle.proto_faaslet.specs.Entries.{HasRoom};
 
-use crate::operands::Operands;
+use crate::finish::{Ran, finish};
+use faaslet_meaning::Outcome;
+use proto_faaslet::{BuildFault, Proto, room_of};
+use region_map::{PlainPages, SegmentedMemory};
 use std::alloc::{AllocError, Global};
-use wasm_decode::MinimalInstr;
+use wasm_interp::Machine;
+use wasm_validate::ValidModule;
 
-/// How a run of a minimal module ends.
-#[derive(Clone, Copy, Debug, PartialEq, Eq)]
-pub enum Ending {
-    /// The result of `main`, as the value that it left.
-    Done(u32),
-    FuelOut,
-    StackExhausted,
-}
+/// The pages of its own that a call may have.
+const QUOTA: u32 = 64;
 
-#[derive(Clone, Copy, Debug, PartialEq, Eq)]
-pub struct Ran {
-    pub ending: Ending,
-    pub used: u64,
-}
-
-/// The run of the minimal module of these instructions, which are typed, with this fuel and whatever
-/// its input.
-pub fn run(alloc: Global, code: &[MinimalInstr], fuel: u64) -> Result<Ran, AllocError>
-    requires { height_after code.now 0 ≡ Some 1 }
-    ensures { IfOk result (λ r. (input : List ℕ)
-        → Runs (call_function (minimal_module code.now) fuel) input told_nothing
-        (outcome_of r.ending) [] r.used) }
+/// A machine with room for a call of the module, in which no mapped page may be written.
+pub(crate) fn machine_for<'s>(
+    alloc: Global,
+    module: &ValidModule,
+) -> Result<Machine<'s, SegmentedMemory<'s>>, AllocError>
+    requires imports { HostImports «module».now }
+    requires limits { first_passed «module».now ≡ None }
+    ensures room { IfOk result (λ m. HasRoom m «module».now) }
+    ensures pages { IfOk result (λ m. QUOTA ≤ m.memory.room) }
+    ensures writable { IfOk result (λ m. m.writable ≡ 0) }
 {
-    let mut operands = Operands::new(alloc);
-    let mut left = fuel;
-    for instr in code {
-        if left == 0 {
-            return Ok(Ran {
-                ending: Ending::FuelOut,
-                used: fuel,
-            });
-        }
-        left -= 1;
-        if !operands.step(instr)? {
-            return Ok(Ran {
-                ending: Ending::StackExhausted,
-                used: fuel - left,
-            });
-        }
+    let memory = SegmentedMemory::new(alloc, PlainPages::new(alloc, QUOTA)?)?;
+    match Machine::new(alloc, memory, room_of(module)) {
+        Ok(machine) => Ok(machine),
+        Err(_) => Err(AllocError),
     }
-    Ok(Ran {
-        ending: Ending::Done(operands.top()),
-        used: fuel - left,
-    })
+}
+
+/// A call of a module without imports, from its instantiation to its end.
+pub fn run(alloc: Global, module: &ValidModule, fuel: u64) -> Result<Ran, AllocError>
+    requires valid { Valid «module».now }
+    requires limits { first_passed «module».now ≡ None }
+    requires runnable { Runnable «module».now }
+    requires no_imports { «module».now.imports ≡ [] }
+    ensures runs { IfOk result (λ r. (input : List ℕ)
+        → Runs (call_function «module».now fuel) input told_nothing r.outcome [] r.used) }
+    ensures no_want { IfOk result (λ r. r.outcome ≢ Outcome.Want) }
+{
+    let proto = match Proto::build(alloc, module, QUOTA, fuel) {
+        Ok(proto) => proto,
+        Err(BuildFault::Broken(kind)) => {
+            return Ok(Ran {
+                outcome: Outcome::Broken(kind),
+                used: 0,
+            });
+        }
+        Err(BuildFault::Want) => return Err(AllocError),
+    };
+    let mut machine = machine_for(alloc, module)?;
+    proto.restore(&mut machine, fuel);
+    Ok(finish(&mut machine))
 }

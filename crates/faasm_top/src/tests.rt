@@ -188,8 +188,8 @@ const ROWS: [(&str, usize, usize, &[u8], &str, &str, u8); 21] = [
         37,
         &[0x0A, 0x07, 0x01, 0x05, 0x00, 0x01, 0x41, 0x2A, 0x0B],
         "10",
-        NOT_BUILT,
-        3,
+        "call done 42 used 2 output \n",
+        0,
     ),
     (
         "an end before the end",
@@ -215,8 +215,8 @@ const ROWS: [(&str, usize, usize, &[u8], &str, &str, u8); 21] = [
         TYPES,
         &[0x00, 0x01, 0x00],
         "10",
-        NOT_BUILT,
-        3,
+        DONE,
+        0,
     ),
     ("a byte behind it", 37, 37, &[0x00], "10", MALFORMED, 3),
 ];
@@ -293,7 +293,7 @@ fn calls_of_modules(rt: HostRuntime) -> Result<(), Fail> {
         )?;
         // The header alone and the section of types behind it are modules.
         let line = if len == TYPES || len == FUNCTIONS {
-            NOT_BUILT
+            "no main\n"
         } else {
             MALFORMED
         };

@@ -1,11 +1,6 @@
 pub mod Bodies
 pub mod Contents
-pub mod FourSections
-pub mod Instrs
-pub mod MinimalLaws
 pub mod Modules
 pub mod Passed
-pub mod ReaderLaws
 pub mod SectionLists
-pub mod Sequences
 pub mod Texts

@@ -6,8 +6,9 @@ pub mod Rows
 pub mod Turns
 pub mod Passing
 pub mod Contexts
-pub mod Copies
+pub mod Groups
 pub mod Kept
+pub mod JumpTables
 pub mod Distinct
 pub mod Images
 pub mod Plain

@@ -1,11 +1,11 @@
 -- Operands taken or left one after another.
-use Rattle.std.proofs.Common.{◌≡◌, ℕ, zero, suc, ◌-◌, ◌<◌, ◌≤◌, Some, List, [], ◌∷◌, ◌++◌, length, refl, take, get_or, reverse, sym, ap, ◌∙◌, arith, option_and_then}
+use Rattle.std.proofs.Common.{◌≡◌, ℕ, zero, suc, ◌-◌, ◌<◌, ◌≤◌, Some, None, List, [], ◌∷◌, ◌++◌, length, refl, take, get_or, reverse, sym, ap, ◌∙◌, arith, option_and_then}
 use Rattle.std.proofs.lemmas.List.{reverse-append}
 use Rattle.std.proofs.Math.Seq.{take-suc}
 use Rattle.faaslet_meaning.specs.declared.instr.ValType.{ValType}
 use Rattle.wasm_validate.specs.declared.fault.Fault.{Fault}
 use Rattle.wasm_validate.specs.declared.fault.Fault.TheVariants.{Invalid, Want}
-use Rattle.wasm_validate.specs.Frames.{Frame, push, pop, pops}
+use Rattle.wasm_validate.specs.Frames.{Frame, push, pop_any, expected, pop, pops}
 use Rattle.wasm_validate.specs.Steps.{pushes}
 use Rattle.wasm_validate.specs.Gives.{Fails}
 
@@ -17,6 +17,11 @@ last_first ts (suc j) d h l =
 
 pub popped_more : (ts ws : List ValType) (t : ValType) (fs new : List Frame) → ts ≡ t ∷ ws → pop t fs ≡ Some new → pops ws new ≡ pops ts fs
 popped_more ts ws t fs new e p = sym (ap (λ l. pops l fs) e ∙ ap (λ o. option_and_then (pops ws) o) p)
+
+-- where any operand may be taken, all of these may
+pub all_unknown : (ts : List ValType) (fs : List Frame) → pop_any fs ≡ Some (None, fs) → pops ts fs ≡ Some fs
+all_unknown [] fs e = refl
+all_unknown (t ∷ ts) fs e = ap (λ o. option_and_then (pops ts) (option_and_then (expected t) o)) e ∙ all_unknown ts fs e
 
 pub fails_more : (fault : Fault) (ts ws : List ValType) (t : ValType) (fs : List Frame) → ts ≡ t ∷ ws → Fails fault (pop t fs) → Fails fault (pops ts fs)
 fails_more Want ts ws t fs e p = tt

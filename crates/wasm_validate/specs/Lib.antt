@@ -7,5 +7,7 @@ pub mod Scopes
 pub mod Steps
 pub mod Admits
 pub mod Spaces
+pub mod Groups
 pub mod Rules
 pub mod Causes
+pub mod Jumps

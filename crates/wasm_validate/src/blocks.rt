@@ -1,6 +1,6 @@
 //! The control stack and the operand stack.
 
-ghost use Rattle.std.specs.Prelude.{◌≡◌, [], ◌∷◌, length, Some, IsTrue, ◌↔◌, option_map, slice_get};
+ghost use Rattle.std.specs.Prelude.{◌≡◌, [], ◌∷◌, length, Some, None, IsTrue, ◌↔◌, option_map, slice_get};
 ghost use Rattle.wasm_validate.specs.Frames.{push, pop_any, dead, opened, closed, label_of, ends_of};
 ghost use Rattle.wasm_validate.specs.Gives.{Gives, Leaves};
 
@@ -65,6 +65,16 @@ impl Blocks {
             unreachable: false,
         })?;
         Ok(())
+    }
+
+    /// Whether the innermost block can't be reached and has no operands, so that any may be taken.
+    pub fn is_bare(&self) -> bool
+        ensures { IsTrue result → pop_any self.now ≡ Some (None, self.now) }
+    {
+        match self.controls.get(0) {
+            Some(control) => control.unreachable && self.operands.len() == control.height,
+            None => false,
+        }
     }
 
     pub fn pop_any(&mut self) -> Result<Option<ValType>, Fault>

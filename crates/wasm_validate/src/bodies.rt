@@ -1,7 +1,8 @@
 //! The bodies of a module, in order.
 
-ghost use Rattle.std.specs.Prelude.{◌≡◌, ◌++◌, ◌<◌, ◌≤◌, length, nat_lt, IfOk, OnOk, flat_map, replicate};
+ghost use Rattle.std.specs.Prelude.{◌≡◌, ◌<◌, ◌≤◌, ◌^◌, length, nat_lt, IfOk};
 ghost use Rattle.std.specs.Result.{IsErrOf};
+ghost use Rattle.faaslet_meaning.specs.IndexSpaces.{local_count};
 ghost use Rattle.faaslet_meaning.specs.Valid.{RulesHold};
 ghost use Rattle.wasm_validate.specs.Spaces.{AreSpaces};
 ghost use Rattle.faaslet_meaning.specs.Tree.{types_of};
@@ -11,36 +12,11 @@ ghost use Rattle.wasm_validate.specs.declared.fault.Fault.TheVariants as faults;
 use crate::body::validate_body;
 use crate::fault::Fault;
 use crate::invalid::Invalid;
+use crate::locals::Locals;
 use crate::scope::Scope;
 use crate::spaces::Spaces;
-use faaslet_meaning::{Body, FuncType, Limits, LocalGroup, Module, ValType};
-use std::alloc::{AllocError, Global};
-
-/// Adds so many locals of one type.
-#[tactic(auto, using(crate::proofs::Copies::one_more))]
-fn add_locals(locals: &mut Vec<ValType>, group: LocalGroup) -> Result<(), AllocError>
-    ensures { OnOk result (locals.new.items ≡ locals.old.items ++ replicate group.count group.kind) }
-{
-    'copies: for _ in 0..group.count {
-        locals.push(group.kind)?;
-    }
-    Ok(())
-}
-
-/// The parameters, and behind them the groups written out.
-fn locals_of(
-    alloc: Global,
-    params: &[ValType],
-    groups: &[LocalGroup],
-) -> Result<Vec<ValType>, AllocError>
-    ensures { IfOk result (λ v. v.items ≡ params.now ++ flat_map (λ g. replicate g.count g.kind) groups.now) }
-{
-    let mut locals = Vec::from_slice(alloc, params)?;
-    for group in groups {
-        add_locals(&mut locals, *group)?;
-    }
-    Ok(locals)
-}
+use faaslet_meaning::{Body, FuncType, Limits, Module, ValType};
+use std::alloc::Global;
 
 /// The result of functions of this type.
 fn result_of(t: &FuncType) -> Option<ValType>
@@ -61,7 +37,7 @@ fn scope_of<'m>(
     module: &'m Module,
     spaces: &'m Spaces,
     t: &'m FuncType,
-    locals: &'m [ValType],
+    locals: &'m Locals<'m>,
 ) -> Scope<'m>
     requires spaces_are { AreSpaces «module».now spaces.now }
     requires rules { RulesHold «module».now }
@@ -90,14 +66,15 @@ fn check_body(
     requires spaces_are { AreSpaces «module».now spaces.now }
     requires rules { RulesHold «module».now }
     requires is_function { k < length spaces.now.functions.items }
+    requires few_locals { local_count body.now < 2 ^ 32 }
     ensures typed { IfOk result (λ _. TypedAt «module».now k body.now) }
     ensures untyped { IsErrOf result faults.Invalid → TypedAt «module».now k body.now → ⊥ }
 {
     let types = module.types.as_slice();
     let functions = spaces.functions.as_slice();
     let t = &types[functions[k] as usize];
-    let locals = locals_of(alloc, t.params.as_slice(), body.locals.as_slice())?;
-    let scope = scope_of(module, spaces, t, locals.as_slice());
+    let locals = Locals::of(alloc, t.params.as_slice(), body.locals.as_slice())?;
+    let scope = scope_of(module, spaces, t, &locals);
     validate_body(alloc, &scope, body.code.as_slice())
 }
 

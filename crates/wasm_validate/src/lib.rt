@@ -10,7 +10,9 @@ mod fault;
 mod floats;
 mod instrs;
 mod invalid;
+mod jumps;
 mod kind;
+mod locals;
 mod module_rules;
 mod names;
 mod opcodes;
@@ -22,4 +24,8 @@ mod stack;
 mod valid;
 
 pub use invalid::{Invalid, Refused};
+pub use jumps::{Jump, Jumps};
 pub use valid::{ValidModule, validate};
+
+#[cfg(test)]
+mod tests;

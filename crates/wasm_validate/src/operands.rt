@@ -49,12 +49,16 @@ pub fn push_type(blocks: &mut Blocks, t: Option<ValType>) -> Result<(), Fault>
     }
 }
 
-/// Takes operands of these types, the last one topmost.
+/// Takes operands of these types, the last one topmost. It stops where any may be taken, so that the
+/// time of a body does not grow with the parameters of calls that can't be reached.
 pub fn pop_all(blocks: &mut Blocks, types: &[ValType]) -> Result<(), Fault>
     ensures { Leaves result blocks.new (pops (reverse types.now) blocks.old) }
 {
     let mut left = types.len();
     'types: while left > 0 {
+        if blocks.is_bare() {
+            return Ok(());
+        }
         left -= 1;
         match pop(blocks, types[left]) {
             Ok(()) => {}

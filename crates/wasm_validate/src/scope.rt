@@ -3,6 +3,7 @@
 ghost use Rattle.std.specs.Prelude.{◌≡◌, slice_get, option_copied};
 ghost use Rattle.faaslet_meaning.specs.Tree.{types_of};
 
+use crate::locals::Locals;
 use faaslet_meaning::{FuncType, GlobalType, ValType};
 use std::marker::Model;
 
@@ -15,7 +16,7 @@ pub struct Scope<'m> {
     pub globals: &'m [GlobalType],
     pub has_table: bool,
     pub has_memory: bool,
-    pub locals: &'m [ValType],
+    pub locals: &'m Locals<'m>,
     pub leaves: Option<ValType>,
 }
 
@@ -56,7 +57,7 @@ impl<'m> Scope<'m> {
     pub fn local(&self, k: u32) -> Option<ValType>
         ensures { result ≡ slice_get self.now.locals k }
     {
-        self.locals.get(k as usize).copied()
+        self.locals.get(k)
     }
 
     pub fn has_table(&self) -> bool

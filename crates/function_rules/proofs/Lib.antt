@@ -1,0 +1,3 @@
+pub mod Owns
+pub mod Tables
+pub mod Types

@@ -1,0 +1,4 @@
+pub mod Exports
+pub mod HostCalls
+pub mod Reasons
+pub mod Signatures

@@ -1,0 +1,12 @@
+pub mod Begun
+pub mod Built
+pub mod Enters
+pub mod First
+pub mod Grants
+pub mod Made
+pub mod Passing
+pub mod Pieces
+pub mod Restored
+pub mod Rooms
+pub mod Steady
+pub mod Told

@@ -1,0 +1,5 @@
+mod Changes
+mod Numbers
+mod Overs
+mod Spots
+mod Spread

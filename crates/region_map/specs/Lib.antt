@@ -1,0 +1,4 @@
+pub mod Pages
+pub mod PlainPages
+pub mod Segments
+pub mod SegmentedMemory

@@ -1,0 +1,12 @@
+use Rattle.std.proofs.Common.{lit<}
+use Rattle.wasm_interp.proofs.Leaving.{results_fit, frame_left}
+use Rattle.wasm_interp.proofs.thread.Thread.leave_frame.Goals as goal
+
+pub unwind-requires : goal.unwind-requires
+unwind-requires c =
+    let (memory, d, s, ok) = c.requires in
+    (lit< tt, results_fit memory c.args.self.now d s ok)
+
+pub returns-clause-done : goal.returns-clause-done
+returns-clause-done c memory d s ok =
+    frame_left memory c.args.self.now d s c.pop-self.result c.pop-self.new.self c.unwind.new.self c.cut.new.self c.pop-self.ensures c.unwind.ensures c.cut.ensures ok

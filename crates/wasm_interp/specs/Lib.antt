@@ -1,0 +1,12 @@
+pub mod Cells
+pub mod Stands
+pub mod Rooms
+pub mod Parts
+pub mod StandsFor
+pub mod Goes
+pub mod Places
+pub mod Callees
+pub mod HostStops
+pub mod Lending
+pub mod Trials
+pub mod Grants
