@@ -11,7 +11,7 @@ use Rattle.wasm_interp.specs.declared.machine.Stage.{Stage}
 use Rattle.wasm_interp.specs.declared.machine.Stage.TheVariants as stage
 use Rattle.wasm_interp.specs.declared.thread.Thread.{Thread}
 use Rattle.wasm_interp.specs.Stands.{Stands, KeptFor}
-use Rattle.wasm_interp.specs.StandsFor.{StageStands, FuelWithin, StandsFor, with_memory}
+use Rattle.wasm_interp.specs.StandsFor.{StageStands, OfRun, StandsFor, with_memory}
 
 -- the buffers count for nothing
 pub scratch_replaced : {M : Type 0} (shape : M → Memory) (m : Machine M) (code : Module) (grants : List Grant) (given : ℕ) (n : Next) (bytes : List ℕ) → StandsFor shape m code grants given n → StandsFor shape (record m { scratch = bytes }) code grants given n
@@ -40,7 +40,7 @@ typed_with g memory (touches c b) h t = absurd (h c b refl)
 typed_with g memory (calls c k) h t = t
 typed_with g memory stuck h t = t
 
-within_with : (given : ℕ) (memory : Memory) (n : Next) → FuelWithin given n → FuelWithin given (with_memory memory n)
+within_with : (given : ℕ) (memory : Memory) (n : Next) → OfRun given n → OfRun given (with_memory memory n)
 within_with given memory (goes c) w = w
 within_with given memory (ends c o) w = w
 within_with given memory (touches c b) w = w

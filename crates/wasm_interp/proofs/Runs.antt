@@ -3,6 +3,7 @@ use Rattle.std.proofs.Common.{◌≡◌, ℕ, zero, suc, ◌+◌, ◌*◌, ◌<�
 use Rattle.std.specs.Prelude.{◌≢◌}
 use Rattle.faaslet_meaning.specs.declared.grant.Grant.{Grant}
 use Rattle.faaslet_meaning.specs.declared.module.Module.{Module}
+use Rattle.faaslet_meaning.specs.declared.outcome.Outcome.{Outcome}
 use Rattle.faaslet_meaning.specs.Bounds.{weight}
 use Rattle.faaslet_meaning.specs.Configuration.{Program, Configuration, Begun, Next, goes, ends, touches, calls, stuck}
 use Rattle.faaslet_meaning.specs.Fine.{ground_of, NextOk}
@@ -23,7 +24,7 @@ use Rattle.wasm_interp.specs.declared.machine.Stage.TheVariants as stage
 use Rattle.wasm_interp.specs.declared.machine.Event.TheVariants as event
 use Rattle.wasm_interp.specs.Goes.{Loaded, SameRun, Able, Done, Shown, does_run, event_of}
 use Rattle.wasm_interp.specs.Stands.{Stands}
-use Rattle.wasm_interp.specs.StandsFor.{StageStands, FuelWithin, StandsFor, Comes, EventIs, PendingStands}
+use Rattle.wasm_interp.specs.StandsFor.{StageStands, EndsRun, OfRun, StandsFor, Ran, Comes, EventIs, PendingStands}
 use Rattle.wasm_interp.proofs.Fuel.{step_within}
 use Rattle.wasm_interp.proofs.Labels.{labels_are}
 use Rattle.wasm_interp.proofs.Settling.{still_code, still_agrees}
@@ -90,7 +91,7 @@ module _ {M : Type 0} (shape : M → Memory) (m : Machine M) (code : Module) (gr
         agrees = still_agrees m new grants same s.agrees;
         given_is = same.given ∙ s.given_is;
         typed = typed;
-        within = step_within given (program_of code grants) at.config (subst (FuelWithin given) at.is s.within);
+        within = step_within given (program_of code grants) at.config (subst (OfRun given) at.is s.within);
         stage = done (program_of code grants) at.config loaded at.stands not_stuck;
       }
 
@@ -163,3 +164,14 @@ pub still_stands : {M : Type 0} (shape : M → Memory) (m new : Machine M) (code
 still_stands {M = M} shape m new code grants given n e s =
     subst (λ (k : Machine M). StandsFor shape k code grants given n) (sym e)
     (record { loaded = s.loaded; valid = s.valid; imports = s.imports; agrees = s.agrees; given_is = s.given_is; typed = s.typed; within = s.within; stage = s.stage })
+
+-- what it tells at the end is what a run comes to
+pub ends_run : {M : Type 0} (shape : M → Memory) (m : Machine M) (code : Module) (grants : List Grant) (given : ℕ) (n : Next) (told : Event) (o : Outcome) → told ≡ event.Ended o → Ran shape m code grants given n told → EndsRun o
+ends_run shape m code grants given n told o e r = at r.next (subst (λ k. EventIs k m.scratch r.next) e r.event) r.stands.within
+  where
+    at : (x : Next) → EventIs (event.Ended o) m.scratch x → OfRun given x → EndsRun o
+    at (ends c p) h w = subst EndsRun (sym h) w.1
+    at (goes c) h w = absurd h
+    at (touches c b) h w = absurd h
+    at (calls c k) h w = absurd h
+    at stuck h w = absurd h

@@ -11,7 +11,7 @@ use Rattle.wasm_interp.specs.declared.machine.Stage.{Stage}
 use Rattle.wasm_interp.specs.declared.machine.Stage.TheVariants as stage
 use Rattle.wasm_interp.specs.declared.thread.Thread.{Thread}
 use Rattle.wasm_interp.specs.Stands.{Stands, KeptFor}
-use Rattle.wasm_interp.specs.StandsFor.{StageStands, FuelWithin, StandsFor, config_of}
+use Rattle.wasm_interp.specs.StandsFor.{StageStands, OfRun, StandsFor, config_of}
 
 -- at a host call
 pub at_host : (memory : Memory) (t : Thread) (s : Stage) (c : Configuration) (h : HostCall) → StageStands memory t s (calls c h) → Stands memory t c
@@ -49,9 +49,9 @@ kept_at memory t s stuck c x e = absurd (cc)
 pub memory_stands : {M : Type 0} (shape : M → Memory) (m : Machine M) (code : Module) (grants : List Grant) (given : ℕ) (n : Next) (c : Configuration) → StandsFor shape m code grants given n → config_of n ≡ Some c → shape m.memory ≡ c.memory
 memory_stands shape m code grants given n c s e = (kept_at (shape m.memory) m.thread m.stage n c s.stage e).memory_is
 
-pub fuel_left : (given : ℕ) (n : Next) (c : Configuration) → FuelWithin given n → config_of n ≡ Some c → c.fuel ≤ given
+pub fuel_left : (given : ℕ) (n : Next) (c : Configuration) → OfRun given n → config_of n ≡ Some c → c.fuel ≤ given
 fuel_left given (goes d) c h e = subst (λ (x : Configuration). x.fuel ≤ given) (same_Some _ _ e) h
-fuel_left given (ends d o) c h e = subst (λ (x : Configuration). x.fuel ≤ given) (same_Some _ _ e) h
+fuel_left given (ends d o) c h e = subst (λ (x : Configuration). x.fuel ≤ given) (same_Some _ _ e) h.0
 fuel_left given (touches d b) c h e = subst (λ (x : Configuration). x.fuel ≤ given) (same_Some _ _ e) h
 fuel_left given (calls d k) c h e = subst (λ (x : Configuration). x.fuel ≤ given) (same_Some _ _ e) h
 fuel_left given stuck c h e = absurd (cc)

@@ -3,6 +3,8 @@ use Rattle.std.specs.Prelude.{◌≡◌, ℕ, ◌/◌, ◌<◌, ◌≤◌, ◌^�
 use Rattle.faaslet_meaning.specs.declared.module.Module.{Module}
 use Rattle.faaslet_meaning.specs.declared.grant.Grant.{Grant}
 use Rattle.faaslet_meaning.specs.declared.grant.Mode.TheVariants.{Write}
+use Rattle.faaslet_meaning.specs.declared.outcome.Outcome.{Outcome}
+use Rattle.faaslet_meaning.specs.declared.outcome.Outcome.TheVariants as outcome
 use Rattle.faaslet_meaning.specs.Valid.{Valid}
 use Rattle.faaslet_meaning.specs.Runnable.{HostImports}
 use Rattle.faaslet_meaning.specs.Memory.{Memory, Access, reads, writes, Touch, reads_piece, writes_piece, touch_of, grant_limit}
@@ -101,16 +103,23 @@ StageStands memory t (stage.Host ask) (calls c h) = Stands memory t c × AsksHos
 StageStands memory t (stage.Over o) (ends c p) = (o ≡ p) × KeptFor memory t c
 StageStands memory t _ _ = ⊥
 
--- it has at most so much fuel
-abbrev pub FuelWithin : ℕ → Next → Type 0
-FuelWithin n (goes c) = c.fuel ≤ n
-FuelWithin n (ends c o) = c.fuel ≤ n
-FuelWithin n (touches c b) = c.fuel ≤ n
-FuelWithin n (calls c h) = c.fuel ≤ n
-FuelWithin n stuck = Unit {0}
+-- what a run comes to by itself
+abbrev pub EndsRun : Outcome → Type 0
+EndsRun (outcome.Done v) = Unit {0}
+EndsRun (outcome.Trap t) = Unit {0}
+EndsRun outcome.FuelOut = Unit {0}
+EndsRun _ = ⊥
+
+-- it has at most so much fuel, and where it ends it ends as a run does
+abbrev pub OfRun : ℕ → Next → Type 0
+OfRun n (goes c) = c.fuel ≤ n
+OfRun n (ends c o) = (c.fuel ≤ n) × EndsRun o
+OfRun n (touches c b) = c.fuel ≤ n
+OfRun n (calls c h) = c.fuel ≤ n
+OfRun n stuck = Unit {0}
 
 -- The machine stands for this, as the program of a module with these grants, begun with so much fuel. What it stands for is
--- typed, so no step from it is stuck, and has at most the fuel that was given.
+-- typed, so no step from it is stuck, and is one of a run: it has at most the fuel that was given, and ends as runs do.
 pub record StandsFor {M : Type 0} (shape : M → Memory) (m : Machine M) (code : Module) (grants : List Grant) (given : ℕ) (n : Next) : Type 0 where
   pub loaded : option_map (λ r. r.now) m.code ≡ Some code
   pub valid : Valid code
@@ -118,7 +127,7 @@ pub record StandsFor {M : Type 0} (shape : M → Memory) (m : Machine M) (code :
   pub agrees : Agrees m.writable grants
   pub given_is : m.given ≡ given
   pub typed : NextOk (ground_of code) n
-  pub within : FuelWithin given n
+  pub within : OfRun given n
   pub stage : StageStands (shape m.memory) m.thread m.stage n
 
 -- what stands in what comes next, where anything does

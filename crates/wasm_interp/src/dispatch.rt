@@ -10,7 +10,8 @@ ghost use Rattle.faaslet_meaning.specs.Tree.{IsPlain};
 ghost use Rattle.wasm_interp.specs.Goes.{SameRun, Able, Done, instruction, beginning, settled, does_run, event_of, Shown};
 ghost use Rattle.wasm_interp.specs.Places.{InstrAt, JumpAt, IsBegun, IsOwn};
 ghost use Rattle.wasm_interp.specs.Stands.{Stands, Can, Does};
-ghost use Rattle.wasm_interp.specs.StandsFor.{PendingStands, StageStands, StandsFor, Ran};
+ghost use Rattle.wasm_interp.specs.StandsFor.{PendingStands, StageStands, EndsRun, StandsFor, Ran};
+ghost use Rattle.wasm_interp.specs.declared.machine.Event.TheVariants as events;
 ghost use Rattle.wasm_interp.specs.declared.machine.Pending.{Pending};
 ghost use Rattle.wasm_interp.specs.declared.machine.Stage.TheVariants as stages;
 ghost use Rattle.wasm_interp.specs.Rooms.{SameRooms};
@@ -205,6 +206,7 @@ impl<'m, M: Linear> Machine<'m, M> {
         requires { (code : Module) × (grants : List Grant) × (given : ℕ) × (n : Next) × StandsFor M.memory self.old code grants given n }
         ensures ran { (code : Module) (grants : List Grant) (given : ℕ) (n : Next) → StandsFor M.memory self.old code grants given n
             → Ran M.memory self.new code grants given n result }
+        ensures end { (outcome : Outcome) → result ≡ events.Ended outcome → EndsRun outcome }
         ensures same { SameRun M.backing self.old self.new }
     {
         'turns: while self.runs() {

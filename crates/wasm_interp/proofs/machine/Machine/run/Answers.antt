@@ -3,7 +3,7 @@ use Rattle.faaslet_meaning.specs.Program.{program_of}
 use Rattle.faaslet_meaning.specs.Step.{step}
 use Rattle.wasm_interp.specs.Goes.{event_of}
 use Rattle.wasm_interp.specs.declared.machine.Machine.{Machine}
-use Rattle.wasm_interp.proofs.Runs.{able, at, stepped, leaves_less, runs_so, comes_more, event_is, still_stands}
+use Rattle.wasm_interp.proofs.Runs.{able, at, stepped, leaves_less, runs_so, comes_more, event_is, still_stands, ends_run}
 use Rattle.wasm_interp.proofs.Settling.{same_then}
 use Rattle.wasm_interp.proofs.machine.Machine.run.Goals as goal
 
@@ -19,6 +19,11 @@ returns-clause-ran g c code grants given n s =
       stands = still_stands shape m c.show.new.self code grants given next c.show.ensures.same stands;
       event = event_is (shape m.memory) m.thread m.stage next c.told.result c.show.new.self.scratch told stands.stage (λ q e vs b p. c.show.ensures.shown (shape m.memory) q vs b e p);
     }
+
+pub returns-clause-end : goal.returns-clause-end
+returns-clause-end g c outcome e =
+    let (code, grants, given, n, s) = c.requires in
+    ends_run g.M.Linear.memory c.show.new.self code grants given n c.told.result outcome e (returns-clause-ran g c code grants given n s)
 
 pub step-requires : goal.step-requires
 step-requires g c =
