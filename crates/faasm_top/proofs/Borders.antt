@@ -1,27 +1,12 @@
 -- The machine of the test of a store over a border may begin.
 use Rattle.std.proofs.Common.{◌≡◌, ℕ, zero, suc, ◌≤◌, ◌/◌, ◌%◌, ◌^◌, List, [], ◌∷◌, refl, sym, ap, subst, arith}
 use Rattle.std.specs.Prelude.{nat_eq}
-use Rattle.std.proofs.Math.Nat.{zero-div, div-eq_of_lt, pow-suc}
+use Rattle.std.proofs.Math.Nat.{div-eq_of_lt, pow-suc}
 use Rattle.std.proofs.lemmas.Nat.{pow_pos}
 use Rattle.faaslet_meaning.specs.declared.grant.Grant.{Grant}
 use Rattle.faaslet_meaning.specs.declared.grant.Mode.TheVariants.{Write}
-use Rattle.faaslet_meaning.specs.declared.instr.Instr.{Instr}
-use Rattle.faaslet_meaning.specs.declared.instr.ValType.TheVariants.{I32}
-use Rattle.faaslet_meaning.specs.declared.module.FuncType.{FuncType}
-use Rattle.faaslet_meaning.specs.declared.module.Module.{Module}
-use Rattle.faaslet_meaning.specs.Parse.{tree_of}
-use Rattle.wasm_interp.specs.StandsFor.{Agrees, IsEntry}
-use Rattle.wasm_interp.specs.Trials.{trial}
+use Rattle.wasm_interp.specs.StandsFor.{Agrees}
 use Rattle.wasm_interp.specs.declared.machine.Machine.{Machine}
-
-abbrev pub main_type : FuncType
-main_type = record { params = []; results = I32 ∷ [] }
-
-trial_entry : (code : List Instr) → IsEntry (trial code) 0 main_type 2 (tree_of code)
-trial_entry code = record { found = refl; params = refl; results = omega arith; few = omega arith }
-
-pub entry_is : (m : Module) (code : List Instr) → m ≡ trial code → IsEntry m 0 main_type 2 (tree_of code)
-entry_is m code e = subst (λ n. IsEntry n 0 main_type 2 (tree_of code)) (sym e) (trial_entry code)
 
 -- where place 0 alone may be written, there is one grant for it
 abbrev pub grant : Grant
@@ -32,9 +17,6 @@ agrees_one zero few = refl
 agrees_one (suc k) few =
     let big : 1 / 2 ^ suc k ≡ 0 = div-eq_of_lt (omega (arith, pow_pos k, pow-suc 2 k)) in
     sym (ap (λ n. nat_eq (n % 2) 1) big)
-
-pub agrees_zero : Agrees 0 []
-agrees_zero k few = sym (ap (λ n. nat_eq (n % 2) 1) (zero-div (2 ^ k)))
 
 -- a machine that was told what may be written
 module _ {M : Type 0} (m n : Machine M) (w : ℕ) (only : n ≡ record m { writable = w }) where

@@ -1,7 +1,6 @@
--- A machine that the snapshot of a function was restored into is about to run the call.
-use Rattle.std.proofs.Common.{◌≡◌, ℕ, List, [], Some, ◌%◌, ◌^◌, refl, sym, ap, subst}
-use Rattle.std.proofs.Math.Nat.{zero-div}
-use Rattle.std.specs.Prelude.{nat_eq}
+-- A machine that the snapshot of a function was restored into is about to run the call. Nothing may be written in it, so no
+-- grants agree with it.
+use Rattle.std.proofs.Common.{◌≡◌, ℕ, List, [], Some, refl, sym, subst}
 use Rattle.faaslet_meaning.specs.declared.module.Module.{Module}
 use Rattle.faaslet_meaning.specs.declared.outcome.Broken.{Broken}
 use Rattle.faaslet_meaning.specs.declared.outcome.Outcome.TheVariants as outcome
@@ -18,13 +17,9 @@ use Rattle.proto_faaslet.specs.declared.fault.BuildFault.{BuildFault}
 use Rattle.proto_faaslet.specs.declared.fault.BuildFault.TheVariants as faults
 use Rattle.wasm_interp.specs.StandsFor.{Agrees, StandsFor}
 use Rattle.wasm_interp.specs.declared.machine.Machine.{Machine}
+use Rattle.wasm_interp.proofs.Trying.{agrees_none}
 use Rattle.faasm_top.specs.FreshCall.{IsFreshCall}
 use Rattle.faasm_top.proofs.Calls.{broken_so}
-
--- so many places that may not be written
-agrees : Agrees 0 []
-agrees k few =
-    sym (ap (λ n. nat_eq (n % 2) 1) (zero-div (2 ^ k)))
 
 module _ (code : Module) (fuel : ℕ) (p : Snapshot) (is : IsSnapshotOf code 64 fuel p) where
   pub here : IsFor (call_function code fuel) p.code p.quota fuel
@@ -39,7 +34,7 @@ module _ (code : Module) (fuel : ℕ) (p : Snapshot) (is : IsSnapshotOf code 64 
         no_imports = none;
         config = config;
         is_fresh = same;
-        stands = subst (λ (n : Module). StandsFor shape m n [] fuel (goes config)) is.code (stands f config here (subst (λ w. Agrees w []) (sym zero) agrees) made);
+        stands = subst (λ (n : Module). StandsFor shape m n [] fuel (goes config)) is.code (stands f config here (agrees_none writable zero) made);
       }
 
 -- and where none is built, the call comes to how the function is broken
