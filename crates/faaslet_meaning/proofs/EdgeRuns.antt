@@ -12,7 +12,7 @@ use Rattle.faaslet_meaning.specs.declared.grant.Grant.{Grant}
 use Rattle.faaslet_meaning.specs.declared.grant.Mode.TheVariants.{Read, Write}
 use Rattle.faaslet_meaning.specs.declared.outcome.Trap.TheVariants as trap
 use Rattle.faaslet_meaning.specs.declared.outcome.Outcome.TheVariants as outcome
-use Rattle.faaslet_meaning.specs.Channels.{Operation, Reply, Transcript, ask}
+use Rattle.faaslet_meaning.specs.Channels.{RegionOperation, Operation, on_region, Reply, Transcript, ask}
 use Rattle.faaslet_meaning.specs.Fresh.{Function}
 use Rattle.faaslet_meaning.proofs.ExampleRuns.{module_of, function, body, one_page, host, func_type, seen, stands, run}
 
@@ -64,12 +64,12 @@ abbrev y : Reply
 y = Reply.present true
 
 abbrev probes : Transcript
-probes = (ask (Local 5) Operation.probe, y) ∷ (ask (Local 6) Operation.probe, y) ∷ []
+probes = (ask (Local 5) (on_region RegionOperation.probe), y) ∷ (ask (Local 6) (on_region RegionOperation.probe), y) ∷ []
 
 denied_before_any_piece : run (side (c 65534 ∷ c 7 ∷ Store 0x36 0 0 ∷ c 0 ∷ [])) [] 40 (y ∷ y ∷ []) ≡ seen probes (outcome.Trap trap.Denied) 9 []
 denied_before_any_piece = refl
 
-pieces_of_two_replicas : run (side (c 65534 ∷ Load 0x28 0 0 ∷ [])) [] 40 (y ∷ y ∷ Reply.bytes (1 ∷ 2 ∷ []) ∷ Reply.bytes (3 ∷ 4 ∷ []) ∷ []) ≡ seen (probes ++ (ask (Local 5) (Operation.read 65534 2), Reply.bytes (1 ∷ 2 ∷ [])) ∷ (ask (Local 6) (Operation.read 0 2), Reply.bytes (3 ∷ 4 ∷ [])) ∷ []) (outcome.Done (pos 0x04030201)) 8 []
+pieces_of_two_replicas : run (side (c 65534 ∷ Load 0x28 0 0 ∷ [])) [] 40 (y ∷ y ∷ Reply.bytes (1 ∷ 2 ∷ []) ∷ Reply.bytes (3 ∷ 4 ∷ []) ∷ []) ≡ seen (probes ++ (ask (Local 5) (on_region (RegionOperation.read 65534 2)), Reply.bytes (1 ∷ 2 ∷ [])) ∷ (ask (Local 6) (on_region (RegionOperation.read 0 2)), Reply.bytes (3 ∷ 4 ∷ [])) ∷ []) (outcome.Done (pos 0x04030201)) 8 []
 pieces_of_two_replicas = refl
 
 -- mapped twice: the address, without a question; the size of memory; growth past the maximum, also of 0 pages
@@ -79,7 +79,7 @@ mapped_key_again = refl
 size_and_no_growth : run (side (MemorySize ∷ c 0 ∷ MemoryGrow ∷ Num 0x6A ∷ [])) [] 40 (y ∷ y ∷ []) ≡ seen probes (outcome.Done (pos 2)) 10 []
 size_and_no_growth = refl
 
-last_byte_of_a_replica : run (side (c 196607 ∷ Load 0x2D 0 0 ∷ [])) [] 40 (y ∷ y ∷ []) ≡ stands (ask (Local 6) (Operation.read 131071 1))
+last_byte_of_a_replica : run (side (c 196607 ∷ Load 0x2D 0 0 ∷ [])) [] 40 (y ∷ y ∷ []) ≡ stands (ask (Local 6) (on_region (RegionOperation.read 131071 1)))
 last_byte_of_a_replica = refl
 
 past_the_last_replica : run (side (c 196608 ∷ Load 0x2D 0 0 ∷ [])) [] 40 (y ∷ y ∷ []) ≡ seen probes (outcome.Trap trap.OutOfBounds) 8 []
@@ -114,7 +114,7 @@ locks code = f (host (codes "lock_state_write") 2 ∷ host (codes "unlock_state"
 abbrev d : Reply
 d = Reply.done
 
-lock_twice : run (locks (c 0 ∷ Call 0 ∷ c 0 ∷ Call 0 ∷ c 0 ∷ [])) [] 40 (d ∷ d ∷ []) ≡ seen ((ask (Local 5) Operation.lock_write, d) ∷ (ask (Local 5) Operation.unlock, d) ∷ []) (outcome.Trap trap.LockMisuse) 4 []
+lock_twice : run (locks (c 0 ∷ Call 0 ∷ c 0 ∷ Call 0 ∷ c 0 ∷ [])) [] 40 (d ∷ d ∷ []) ≡ seen ((ask (Local 5) (on_region RegionOperation.lock_write), d) ∷ (ask (Local 5) (on_region RegionOperation.unlock), d) ∷ []) (outcome.Trap trap.LockMisuse) 4 []
 lock_twice = refl
 
 unlock_without_lock : run (locks (c 0 ∷ Call 1 ∷ c 0 ∷ [])) [] 40 [] ≡ seen [] (outcome.Trap trap.LockMisuse) 2 []
@@ -126,7 +126,7 @@ lock_denied = refl
 lock_without_grant : run (locks (c 2 ∷ Call 0 ∷ c 0 ∷ [])) [] 40 [] ≡ seen [] (outcome.Trap trap.BadKey) 2 []
 lock_without_grant = refl
 
-releases_in_order : run (locks (c 1 ∷ Call 2 ∷ c 0 ∷ Call 2 ∷ c 0 ∷ Call 0 ∷ c 0 ∷ [])) [] 40 (d ∷ d ∷ d ∷ d ∷ d ∷ d ∷ []) ≡ seen ((ask (Global 6) Operation.lock_read, d) ∷ (ask (Global 5) Operation.lock_read, d) ∷ (ask (Local 5) Operation.lock_write, d) ∷ (ask (Local 5) Operation.unlock, d) ∷ (ask (Global 5) Operation.unlock, d) ∷ (ask (Global 6) Operation.unlock, d) ∷ []) (outcome.Done (pos 0)) 7 []
+releases_in_order : run (locks (c 1 ∷ Call 2 ∷ c 0 ∷ Call 2 ∷ c 0 ∷ Call 0 ∷ c 0 ∷ [])) [] 40 (d ∷ d ∷ d ∷ d ∷ d ∷ d ∷ []) ≡ seen ((ask (Global 6) (on_region RegionOperation.lock_read), d) ∷ (ask (Global 5) (on_region RegionOperation.lock_read), d) ∷ (ask (Local 5) (on_region RegionOperation.lock_write), d) ∷ (ask (Local 5) (on_region RegionOperation.unlock), d) ∷ (ask (Global 5) (on_region RegionOperation.unlock), d) ∷ (ask (Global 6) (on_region RegionOperation.unlock), d) ∷ []) (outcome.Done (pos 0)) 7 []
 releases_in_order = refl
 
 -- control

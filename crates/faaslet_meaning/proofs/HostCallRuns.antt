@@ -8,7 +8,7 @@ use Rattle.faaslet_meaning.specs.declared.module.FuncType.{FuncType}
 use Rattle.faaslet_meaning.specs.declared.grant.Channel.TheVariants.{Table}
 use Rattle.faaslet_meaning.specs.declared.outcome.Trap.TheVariants as trap
 use Rattle.faaslet_meaning.specs.declared.outcome.Outcome.TheVariants as outcome
-use Rattle.faaslet_meaning.specs.Channels.{Operation, Reply, ask}
+use Rattle.faaslet_meaning.specs.Channels.{RegionOperation, Operation, on_region, Reply, ask}
 use Rattle.faaslet_meaning.specs.Fresh.{Function}
 use Rattle.faaslet_meaning.proofs.ExampleRuns.{module_of, function, body, one_page, host, func_type, Seen, seen, run}
 

@@ -47,7 +47,8 @@ few (suc n) = omega (arith, few n, pow-suc 2 n)
 
 -- ---- shifts and rotations
 
-kept : (x j k : ℕ) → (x * 2 ^ k) % 2 ^ (j + k) ≡ (x % 2 ^ j) * 2 ^ k
+-- of j + k digits the lowest j stay where k more come below them
+pub kept : (x j k : ℕ) → (x * 2 ^ k) % 2 ^ (j + k) ≡ (x % 2 ^ j) * 2 ^ k
 kept x j k =
     let q = x / 2 ^ j in
     let r = x % 2 ^ j in
@@ -73,7 +74,8 @@ moved_in w x k p h =
     let high : x / 2 ^ k < 2 ^ j = shr_below x j k (subst (λ m. x < 2 ^ m) e h) in
     elim (nat_lt x (2 ^ (bits w - 1))) as (λ b. x / 2 ^ k + (if b then 0 else 2 ^ bits w - 2 ^ j) < 2 ^ bits w) [ true ↦ omega arith | false ↦ omega arith ]
 
-some : (w : Width) → 0 < bits w
+-- a width has digits
+pub some : (w : Width) → 0 < bits w
 some w8 = omega arith
 some w16 = omega arith
 some w32 = omega arith

@@ -6,12 +6,13 @@ use Rattle.faaslet_meaning.specs.declared.grant.Channel.{Channel}
 use Rattle.faaslet_meaning.specs.declared.grant.Channel.TheVariants.{Local, Global, Table}
 use Rattle.faaslet_meaning.specs.declared.outcome.Outcome.{Outcome}
 use Rattle.faaslet_meaning.specs.declared.outcome.Outcome.TheVariants as outcome
-use Rattle.faaslet_meaning.specs.Channels.{Operation, Reply, Question, ask, fills, pulls, pushes, Entry, Transcript, Told, told_by, replies, entries, entries_of, on_channel, replies_on, same_channel, has_form}
+use Rattle.faaslet_meaning.specs.Channels.{RegionOperation, Operation, on_region, Reply, Question, ask, fills, pulls, pushes, Entry, Transcript, Told, told_by, replies, entries, entries_of, on_channel, replies_on, same_channel, has_form}
 use Rattle.faaslet_meaning.specs.CallState.{Invocation, Lock, Act, submit, Stage, running, touching, calling, releasing, without_lock, State, Progress, runs, asks, over, lost}
 use Rattle.faaslet_meaning.specs.Call.{call_step, replied, reply_at, fits, release, reply_work, served}
 use Rattle.faaslet_meaning.specs.Serve.{Carried, reply_to}
 use Rattle.faaslet_meaning.specs.Configuration.{Configuration}
 use Rattle.faaslet_meaning.specs.Fresh.{Function, Made, makes, breaks, nothing, fresh}
+use Rattle.faaslet_meaning.specs.Goes.{NoWant}
 use Rattle.faaslet_meaning.specs.Runs.{Run, ended, went_on, asked, Runs, runs_by}
 
 -- a run taken apart
@@ -26,13 +27,8 @@ opened ended = (refl, refl, refl)
 opened (went_on r) = r
 opened (asked {r = r} {transcript = rest} f run) = (r, rest, refl, f, run)
 
--- no Submit was answered by want of memory
-abbrev NoWant : Transcript → Type 0
-NoWant [] = Unit {0}
-NoWant (x ∷ xs) = (x.1 ≢ Reply.want) × NoWant xs
-
 -- the channel on which a question's reply stands
-abbrev asked_on : Question → Channel
+abbrev pub asked_on : Question → Channel
 asked_on (ask ch op) = ch
 asked_on (fills key n) = Global key
 asked_on (pulls key off len) = Global key
@@ -43,7 +39,7 @@ record First (q : Question) (r : Reply) : Type 0 where
   more : List Entry
   is : entries q r ≡ record { channel = asked_on q; operation = operation; reply = r } ∷ more
 
-from_test : (b : Bool) → T b → b ≡ true
+pub from_test : (b : Bool) → T b → b ≡ true
 from_test true h = refl
 from_test false h = absurd h
 
@@ -57,7 +53,7 @@ own_first : (ch : Channel) (op : Operation) (r : Reply) (es : List Entry) → re
 own_first ch op r es = ap (λ b. map (λ x. x.1) (cond b ((op, r) ∷ on_channel ch es) (on_channel ch es))) (same_self ch)
 
 -- equal fronts leave equal rests
-rest_same : (ch : Channel) (xs es fs : List Entry) → replies_on ch (xs ++ es) ≡ replies_on ch (xs ++ fs) → replies_on ch es ≡ replies_on ch fs
+pub rest_same : (ch : Channel) (xs es fs : List Entry) → replies_on ch (xs ++ es) ≡ replies_on ch (xs ++ fs) → replies_on ch es ≡ replies_on ch fs
 rest_same ch [] es fs e = e
 rest_same ch (x ∷ xs) es fs e = rest_same ch xs es fs (by (same_channel ch x.channel) e)
   where
@@ -81,17 +77,17 @@ first (pulls key off len) (Reply.bytes bs) h n = record { operation = _; more = 
 first (pushes key off len) (Reply.bytes bs) h n = record { operation = _; more = _; is = refl }
 first q r h n = let f : ⊥ = cc in absurd f
 
-both_left : (a b : Bool) → IsTrue (a && b) → IsTrue a
+pub both_left : (a b : Bool) → IsTrue (a && b) → IsTrue a
 both_left true b h = refl
 both_left false b h = cc
 
 -- what stands first on the channel of a question that was answered
-answer_first : (q : Question) (r : Reply) (es : List Entry) → IsTrue (has_form q r) → r ≢ Reply.want → (more : List Reply) × (replies_on (asked_on q) (entries q r ++ es) ≡ r ∷ more)
+pub answer_first : (q : Question) (r : Reply) (es : List Entry) → IsTrue (has_form q r) → r ≢ Reply.want → (more : List Reply) × (replies_on (asked_on q) (entries q r ++ es) ≡ r ∷ more)
 answer_first q r es h n =
     let f = first q r h n in
     (replies_on (asked_on q) (f.more ++ es), ap (λ xs. replies_on (asked_on q) (xs ++ es)) f.is ∙ own_first (asked_on q) f.operation r (f.more ++ es))
 
-same_reply : (q : Question) (r r' : Reply) (es es' : List Entry) → IsTrue (has_form q r) → IsTrue (has_form q r') → r ≢ Reply.want → r' ≢ Reply.want → replies_on (asked_on q) (entries q r ++ es) ≡ replies_on (asked_on q) (entries q r' ++ es') → r ≡ r'
+pub same_reply : (q : Question) (r r' : Reply) (es es' : List Entry) → IsTrue (has_form q r) → IsTrue (has_form q r') → r ≢ Reply.want → r' ≢ Reply.want → replies_on (asked_on q) (entries q r ++ es) ≡ replies_on (asked_on q) (entries q r' ++ es') → r ≡ r'
 same_reply q r r' es es' h h' n n' e =
     let a = answer_first q r es h n in
     let b = answer_first q r' es' h' n' in

@@ -1,11 +1,11 @@
 -- How many pieces a range has.
-use Rattle.std.proofs.Common.{◌≡◌, ℕ, zero, suc, ◌+◌, ◌-◌, ◌*◌, ◌/◌, ◌≤◌, List, [], ◌∷◌, length, refl, ap, arith, Some, Bool, true, false, cond, take, not}
+use Rattle.std.proofs.Common.{◌≡◌, ℕ, suc, ◌+◌, ◌-◌, ◌*◌, ◌/◌, ◌≤◌, List, [], ◌∷◌, length, refl, arith, Some, Bool, true, false, cond, take, not}
 use Rattle.std.specs.Prelude.{nat_lt, ◌==◌, drop, filter, min}
 use Rattle.std.proofs.lemmas.Bool.{ltb-true}
 use Rattle.std.specs.Int.{Width, w8, w16, w32, w64, w128}
 use mir.Val.{bits}
 use Rattle.faaslet_meaning.specs.Lists.{row_at}
-use Rattle.faaslet_meaning.specs.LoadStore.{bytes_of, store_of, Load, load_size, stores}
+use Rattle.faaslet_meaning.specs.LoadStore.{store_of, Load, load_size, stores}
 use Rattle.faaslet_meaning.specs.Memory.{Memory, Segment, Home, private, mapped, is_private, Piece, page_size, cut, pieces, writes, Written, write_on, put, reading, writing}
 use Rattle.faaslet_meaning.specs.Bounds.{left_of}
 
@@ -45,10 +45,6 @@ writing_asks m at bs =
     let a = write_asks (pieces m at (length bs)) m bs in
     let b = cut_few m.segments 0 at (length bs) in
     omega arith
-
-pub bytes_many : (n x : ℕ) → length (bytes_of n x) ≡ n
-bytes_many zero x = refl
-bytes_many (suc n) x = ap suc (bytes_many n (x / 256))
 
 pub load_small : (l : Load) → load_size l ≤ 16
 load_small l = by l.stored

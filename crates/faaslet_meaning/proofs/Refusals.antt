@@ -11,7 +11,7 @@ use Rattle.faaslet_meaning.specs.declared.grant.Mode.TheVariants.{Read, Write}
 use Rattle.faaslet_meaning.specs.declared.outcome.Trap.{Trap}
 use Rattle.faaslet_meaning.specs.declared.outcome.Trap.TheVariants as trap
 use Rattle.faaslet_meaning.specs.declared.outcome.Outcome.TheVariants as outcome
-use Rattle.faaslet_meaning.specs.Channels.{Operation, Reply, ask}
+use Rattle.faaslet_meaning.specs.Channels.{RegionOperation, Operation, on_region, Reply, ask}
 use Rattle.faaslet_meaning.specs.Fresh.{Function}
 use Rattle.faaslet_meaning.proofs.ExampleRuns.{module_of, function, body, one_page, host, func_type, seen, run}
 
@@ -80,5 +80,5 @@ abbrev seen_present : Reply
 seen_present = Reply.present true
 
 over_border : run (function (module_of (func_type (I32 ∷ []) (I32 ∷ []) ∷ types) (host (codes "get_state") 1 ∷ host (codes "set_state") 5 ∷ []) one_page (body (c 0 ∷ Call 0 ∷ Drop ∷ c 0 ∷ c 1 ∷ c 65534 ∷ c 5 ∷ Call 1 ∷ c 0 ∷ []))) 100 (record { key = 5; size = 8; mode = Write } ∷ []) []) [] 30 (seen_present ∷ Reply.bytes (6 ∷ 7 ∷ 8 ∷ []) ∷ Reply.done ∷ [])
-    ≡ seen ((ask (Local 5) Operation.probe, seen_present) ∷ (ask (Local 5) (Operation.read 0 3), Reply.bytes (6 ∷ 7 ∷ 8 ∷ [])) ∷ (ask (Local 5) (Operation.write 1 (0 ∷ 0 ∷ 6 ∷ 7 ∷ 8 ∷ [])), Reply.done) ∷ []) (outcome.Done (pos 0)) 9 []
+    ≡ seen ((ask (Local 5) (on_region RegionOperation.probe), seen_present) ∷ (ask (Local 5) (on_region (RegionOperation.read 0 3)), Reply.bytes (6 ∷ 7 ∷ 8 ∷ [])) ∷ (ask (Local 5) (on_region (RegionOperation.write 1 (0 ∷ 0 ∷ 6 ∷ 7 ∷ 8 ∷ []))), Reply.done) ∷ []) (outcome.Done (pos 0)) 9 []
 over_border = refl

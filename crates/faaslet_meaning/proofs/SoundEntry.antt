@@ -39,8 +39,13 @@ row_full [] n r h e a b = cc
 row_full (s ∷ rs) zero r h e a b = let same : s ≡ r = cc in h.0 (ap (λ (q : HostRow). arity q.form) same ∙ a) (ap (λ (q : HostRow). length (types_of q.result)) same ∙ b)
 row_full (s ∷ rs) (suc n) r h e a b = row_full rs n r h.1 e a b
 
+-- so a function without parameters and results has a body
+pub bare_defined : (g : Ground) (q : Func) → type_of q ≡ record { params = []; results = [] } → FuncOk g q → IsDefined q
+bare_defined g (hosted n t) e o = absurd (row_full host_rows n o.row rows_full o.row_is (o.params ∙ ap (λ (u : FuncType). length u.params) e) (o.results ∙ ap (λ (u : FuncType). length u.results) e))
+bare_defined g (defined t n b) e o = tt
+
 -- what is found under a name has it
-found_export : (name : List ℕ) (test : Export → Bool) (es : List Export) (k : ℕ) → option_map (λ (e : Export). e.index) (find (λ (e : Export). test e && bytes_eq e.name name) es) ≡ Some k → (e : Export) × Contains es e × (e.name ≡ name)
+pub found_export : (name : List ℕ) (test : Export → Bool) (es : List Export) (k : ℕ) → option_map (λ (e : Export). e.index) (find (λ (e : Export). test e && bytes_eq e.name name) es) ≡ Some k → (e : Export) × Contains es e × (e.name ≡ name)
 found_export name test [] k h = absurd (cc)
 found_export name test (e ∷ es) k h = by (test e && bytes_eq e.name name) refl h (found_export name test es k)
   where
@@ -119,11 +124,7 @@ module _ (f : Function) (v : Valid f.code) (hosts : HostImports f.code) where
       let same : j ≡ k = cc in
       let type : slice_get (function_types f.code) k ≡ Some (record { params = []; results = [] }) = subst (λ i. slice_get (function_types f.code) i ≡ Some (record { params = []; results = [] })) same h in
       let found = function_found f.code v hosts k (record { params = []; results = [] }) type in
-      record { type = record { params = []; results = [] }; found = found; params = refl; own = by found.function found.type found.ok }
-    where
-      by : (q : Func) → type_of q ≡ record { params = []; results = [] } → FuncOk here q → IsDefined q
-      by (hosted n t) e o = absurd (row_full host_rows n o.row rows_full o.row_is (o.params ∙ ap (λ (u : FuncType). length u.params) e) (o.results ∙ ap (λ (u : FuncType). length u.results) e))
-      by (defined t n b) e o = tt
+      record { type = record { params = []; results = [] }; found = found; params = refl; own = bare_defined here found.function found.type found.ok }
 
   export_enters : (name : List ℕ) (t : FuncType) → length t.params ≡ 0 → ExportsOwn f.code name t → (k : ℕ) → export_of f.code name ≡ Some k → CanEnter k
   export_enters name t p x k e =

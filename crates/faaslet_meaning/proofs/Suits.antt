@@ -6,7 +6,7 @@ use Rattle.faaslet_meaning.specs.declared.grant.Channel.{Channel}
 use Rattle.faaslet_meaning.specs.declared.grant.Channel.TheVariants.{Table}
 use Rattle.faaslet_meaning.specs.Memory.{Access, Touch, reads_piece, writes_piece}
 use Rattle.faaslet_meaning.specs.HostCalls.{HostCall, state_size, state_used, get_state, read_state, set_state, push_state, pull_state, push_state_offset, pull_state_offset, append_state, lock_state_read, lock_state_write, unlock_state, lock_global_read, lock_global_write, unlock_global, input_size, read_input, write_output, chain_call, await_call, output_size, read_output}
-use Rattle.faaslet_meaning.specs.Channels.{Operation, Reply, Question, ask, fills, pulls, pushes, has_form}
+use Rattle.faaslet_meaning.specs.Channels.{RegionOperation, Operation, on_region, Reply, Question, ask, fills, pulls, pushes, has_form}
 use Rattle.faaslet_meaning.specs.CallState.{Invocation, Tier, local, global, Act, presence, fill, passing, local_read, local_write, push, pull, used, append, map, lock_read, lock_write, unlock, submit, await, look, gives, State, address_of}
 use Rattle.faaslet_meaning.specs.Checks.{key_size}
 use Rattle.faaslet_meaning.specs.Operations.{operations, address_or_map}
@@ -68,7 +68,7 @@ Fit _ = Unit {0}
 abbrev pub Suits : Act → Question → Type 0
 Suits a q = (x : Carried) (r : Reply) → IsTrue (has_form q r) → Fit (after a x r)
 
-pub probe_suits : (k : ℕ) (ch : Channel) → Suits (presence k) (ask ch Operation.probe)
+pub probe_suits : (k : ℕ) (ch : Channel) → Suits (presence k) (ask ch (on_region RegionOperation.probe))
 probe_suits k ch x (Reply.present true) e = tt
 probe_suits k ch x (Reply.present false) e = tt
 probe_suits k ch x _ e = absurd (cc)
@@ -77,11 +77,11 @@ pub fill_suits : (k key n : ℕ) → Suits (fill k) (fills key n)
 fill_suits k key n x (Reply.bytes bs) e = tt
 fill_suits k key n x _ e = absurd (cc)
 
-pub read_suits : (k off len : ℕ) (ch : Channel) → Suits (local_read k off len) (ask ch (Operation.read off len))
+pub read_suits : (k off len : ℕ) (ch : Channel) → Suits (local_read k off len) (ask ch (on_region (RegionOperation.read off len)))
 read_suits k off len ch x (Reply.bytes bs) e = tt
 read_suits k off len ch x _ e = absurd (cc)
 
-pub write_suits : (k off : ℕ) (ch : Channel) (bs : List ℕ) → Suits (local_write k off) (ask ch (Operation.write off bs))
+pub write_suits : (k off : ℕ) (ch : Channel) (bs : List ℕ) → Suits (local_write k off) (ask ch (on_region (RegionOperation.write off bs)))
 write_suits k off ch bs x Reply.done e = tt
 write_suits k off ch bs x _ e = absurd (cc)
 
@@ -93,11 +93,11 @@ pub pull_suits : (k off len key : ℕ) → Suits (pull k off len) (pulls key off
 pull_suits k off len key x (Reply.bytes bs) e = tt
 pull_suits k off len key x _ e = absurd (cc)
 
-pub used_suits : (k : ℕ) (ch : Channel) → Suits (used k) (ask ch Operation.size)
+pub used_suits : (k : ℕ) (ch : Channel) → Suits (used k) (ask ch (on_region RegionOperation.size))
 used_suits k ch x (Reply.number n) e = tt
 used_suits k ch x _ e = absurd (cc)
 
-pub append_suits : (k : ℕ) (ch : Channel) (bs : List ℕ) → Suits (append k) (ask ch (Operation.append bs))
+pub append_suits : (k : ℕ) (ch : Channel) (bs : List ℕ) → Suits (append k) (ask ch (on_region (RegionOperation.append bs)))
 append_suits k ch bs x (Reply.number n) e = tt
 append_suits k ch bs x Reply.full e = tt
 append_suits k ch bs x _ e = absurd (cc)
@@ -108,15 +108,15 @@ submit_suits f n ch bs x Reply.chain_full e = tt
 submit_suits f n ch bs x Reply.want e = tt
 submit_suits f n ch bs x _ e = absurd (cc)
 
-pub lock_read_suits : (t : Tier) (k : ℕ) (ch : Channel) → Suits (lock_read t k) (ask ch Operation.lock_read)
+pub lock_read_suits : (t : Tier) (k : ℕ) (ch : Channel) → Suits (lock_read t k) (ask ch (on_region RegionOperation.lock_read))
 lock_read_suits t k ch x Reply.done e = tt
 lock_read_suits t k ch x _ e = absurd (cc)
 
-pub lock_write_suits : (t : Tier) (k : ℕ) (ch : Channel) → Suits (lock_write t k) (ask ch Operation.lock_write)
+pub lock_write_suits : (t : Tier) (k : ℕ) (ch : Channel) → Suits (lock_write t k) (ask ch (on_region RegionOperation.lock_write))
 lock_write_suits t k ch x Reply.done e = tt
 lock_write_suits t k ch x _ e = absurd (cc)
 
-pub unlock_suits : (t : Tier) (k : ℕ) (ch : Channel) → Suits (unlock t k) (ask ch Operation.unlock)
+pub unlock_suits : (t : Tier) (k : ℕ) (ch : Channel) → Suits (unlock t k) (ask ch (on_region RegionOperation.unlock))
 unlock_suits t k ch x Reply.done e = tt
 unlock_suits t k ch x _ e = absurd (cc)
 
@@ -138,7 +138,7 @@ IsBytes Reply.done = Unit {0}
 IsBytes (Reply.bytes bs) = Unit {0}
 IsBytes _ = ⊥
 
-pub unlock_done : (ch : Channel) (r : Reply) → IsTrue (has_form (ask ch Operation.unlock) r) → IsDone r
+pub unlock_done : (ch : Channel) (r : Reply) → IsTrue (has_form (ask ch (on_region RegionOperation.unlock)) r) → IsDone r
 unlock_done ch Reply.done e = tt
 unlock_done ch _ e = absurd (cc)
 
@@ -160,7 +160,7 @@ passing_suits j a t x r e = by r (touch_bytes j t r e)
 pub question_suits : (j : Invocation) (x : Carried) (a : Act) (q : Question) → question_of j x a ≡ Some q → Suits a q
 question_suits j x (presence k) q e = by (is_present x.state k) e
   where
-    by : (b : Bool) → cond b None (Some (ask (channel j local k) Operation.probe)) ≡ Some q → Suits (presence k) q
+    by : (b : Bool) → cond b None (Some (ask (channel j local k) (on_region RegionOperation.probe))) ≡ Some q → Suits (presence k) q
     by true e = absurd (cc)
     by false e = subst (Suits (presence k)) (same_Some _ _ e) (probe_suits k (channel j local k))
 question_suits j x (fill k) q e = subst (Suits (fill k)) (same_Some _ _ e) (fill_suits k (key_at j k) (key_size j k))

@@ -7,7 +7,7 @@ use Rattle.faaslet_meaning.specs.Tree.{Tree, stop, plain, block, loop, if_then, 
 use Rattle.faaslet_meaning.specs.Typing.{Context, HasType, Typed, IsTyped}
 use Rattle.faaslet_meaning.specs.Parse.{Part, part, parts, before, before_plain, before_block, before_loop, before_if, before_else, tree_of, first_seq}
 
-plain_before : (i : Instr) → IsPlain i → (ps : List Part) → before i ps ≡ before_plain i ps
+pub plain_before : (i : Instr) → IsPlain i → (ps : List Part) → before i ps ≡ before_plain i ps
 plain_before Unreachable h ps = refl
 plain_before Nop h ps = refl
 plain_before (Block t) h ps = absurd h

@@ -10,7 +10,7 @@ use Rattle.faaslet_meaning.specs.declared.ask.Reply as coded
 use Rattle.faaslet_meaning.specs.declared.ask.Reply.TheVariants as a_reply
 use Rattle.faaslet_meaning.specs.declared.grant.Channel.TheVariants.{Table}
 use Rattle.faaslet_meaning.specs.declared.grant.Grant.{Grant}
-use Rattle.faaslet_meaning.specs.Channels.{Operation, Reply, Question, ask, fills, pulls, pushes}
+use Rattle.faaslet_meaning.specs.Channels.{RegionOperation, Operation, on_region, Reply, Question, ask, fills, pulls, pushes}
 use Rattle.faaslet_meaning.specs.CallState.{Invocation}
 
 -- so many bytes at the front of the scratch, where it has as many
@@ -19,14 +19,14 @@ front len scratch = if nat_le len (length scratch) then Some (take len scratch) 
 
 -- what is carried is the front of the scratch
 abbrev pub operation_of : AskOp → List ℕ → Option Operation
-operation_of op.Probe scratch = Some Operation.probe
-operation_of (op.Read off len) scratch = Some (Operation.read off len)
-operation_of (op.Write off len) scratch = option_map (λ bytes. Operation.write off bytes) (front len scratch)
-operation_of (op.Append len) scratch = option_map (λ bytes. Operation.append bytes) (front len scratch)
-operation_of op.Size scratch = Some Operation.size
-operation_of op.LockRead scratch = Some Operation.lock_read
-operation_of op.LockWrite scratch = Some Operation.lock_write
-operation_of op.Unlock scratch = Some Operation.unlock
+operation_of op.Probe scratch = Some (on_region RegionOperation.probe)
+operation_of (op.Read off len) scratch = Some (on_region (RegionOperation.read off len))
+operation_of (op.Write off len) scratch = option_map (λ bytes. on_region (RegionOperation.write off bytes)) (front len scratch)
+operation_of (op.Append len) scratch = option_map (λ bytes. on_region (RegionOperation.append bytes)) (front len scratch)
+operation_of op.Size scratch = Some (on_region RegionOperation.size)
+operation_of op.LockRead scratch = Some (on_region RegionOperation.lock_read)
+operation_of op.LockWrite scratch = Some (on_region RegionOperation.lock_write)
+operation_of op.Unlock scratch = Some (on_region RegionOperation.unlock)
 
 -- the size of a key that is granted
 abbrev pub size_of_key : List Grant → ℕ → Option ℕ

@@ -8,7 +8,7 @@ use Rattle.faaslet_meaning.specs.HostCalls.{HostCall}
 use Rattle.faaslet_meaning.specs.Configuration.{Begun, load, store, Next, goes, ends, touches, calls, stuck}
 use Rattle.faaslet_meaning.specs.MemoryRules.{resumed}
 use Rattle.faaslet_meaning.specs.Step.{step, finished}
-use Rattle.faaslet_meaning.specs.Channels.{Operation, Reply, Question, ask, has_form}
+use Rattle.faaslet_meaning.specs.Channels.{RegionOperation, Operation, on_region, Reply, Question, ask, has_form}
 use Rattle.faaslet_meaning.specs.CallState.{Invocation, Tier, local, global, Lock, Work, Stage, running, touching, calling, releasing, State, Progress, runs, asks, over, lost, without_lock}
 use Rattle.faaslet_meaning.specs.Checks.{checks, first_trap, holds, noted}
 use Rattle.faaslet_meaning.specs.Operations.{operations}
@@ -25,7 +25,7 @@ locks_from s (suc n) k = lock_at s local k ++ (lock_at s global k ++ locks_from 
 -- one Unlock for each lock still held; they cost no fuel
 abbrev pub release : Invocation → State → Outcome → List Lock → Progress
 release j s o [] = over s o
-release j s o (l ∷ ls) = asks (record s { stage = releasing (l ∷ ls) o }) (ask (channel j l.tier l.place) Operation.unlock)
+release j s o (l ∷ ls) = asks (record s { stage = releasing (l ∷ ls) o }) (ask (channel j l.tier l.place) (on_region RegionOperation.unlock))
 
 abbrev pub ended : Invocation → State → Outcome → Progress
 ended j s o = release j s o (locks_from s (length j.program.grants) 0)

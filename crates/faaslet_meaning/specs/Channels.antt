@@ -1,19 +1,31 @@
 -- What a call asks, what it is told, and the operations that its questions are on each of its channels. This project's
 -- own.
-use Rattle.std.specs.Prelude.{ℕ, Bool, true, false, List, [], ◌∷◌, ◌++◌, map, length, ◌==◌, if◌then◌else◌}
+use Rattle.std.specs.Prelude.{ℕ, Bool, true, false, Option, Some, None, List, [], ◌∷◌, ◌++◌, map, length, ◌==◌, if◌then◌else◌}
 use Rattle.faaslet_meaning.specs.declared.grant.Channel.{Channel}
 use Rattle.faaslet_meaning.specs.declared.grant.Channel.TheVariants.{Local, Global, Table}
 use Rattle.faaslet_meaning.specs.declared.grant.Grant.{Grant}
 use Rattle.faaslet_meaning.specs.declared.outcome.Outcome.{Outcome}
 
--- an operation on a region, or on the call table
+-- an operation on a region
+pub data RegionOperation : Type 0 where
+  probe size lock_read lock_write unlock : RegionOperation
+  read send : (off len : ℕ) → RegionOperation
+  fill append : (bytes : List ℕ) → RegionOperation
+  write take put : (off : ℕ) (bytes : List ℕ) → RegionOperation
+
+-- what a call does on one of its channels: an operation on a region, or on the call table a Submit or a Look
 pub data Operation : Type 0 where
-  probe size lock_read lock_write unlock : Operation
-  read send : (off len : ℕ) → Operation
-  fill append : (bytes : List ℕ) → Operation
-  write take put : (off : ℕ) (bytes : List ℕ) → Operation
+  on_region : (operation : RegionOperation) → Operation
   submit : (function : ℕ) (input : List ℕ) → Operation
   look : (child : ℕ) → Operation
+
+abbrev pub as_region : Operation → Option RegionOperation
+as_region (on_region op) = Some op
+as_region op = None
+
+abbrev pub is_on_region : Operation → Bool
+is_on_region (on_region op) = true
+is_on_region op = false
 
 pub data Reply : Type 0 where
   done full chain_full want : Reply
@@ -42,9 +54,9 @@ entry ch op r = record { channel = ch; operation = op; reply = r }
 abbrev pub entries : Question → Reply → List Entry
 entries q want = []
 entries (ask ch op) r = entry ch op r ∷ []
-entries (fills key n) (bytes bs) = entry (Global key) (send 0 n) (bytes bs) ∷ entry (Local key) (fill bs) done ∷ []
-entries (pulls key off len) (bytes bs) = entry (Global key) (send off len) (bytes bs) ∷ entry (Local key) (take off bs) done ∷ []
-entries (pushes key off len) (bytes bs) = entry (Local key) (send off len) (bytes bs) ∷ entry (Global key) (put off bs) done ∷ []
+entries (fills key n) (bytes bs) = entry (Global key) (on_region (send 0 n)) (bytes bs) ∷ entry (Local key) (on_region (fill bs)) done ∷ []
+entries (pulls key off len) (bytes bs) = entry (Global key) (on_region (send off len)) (bytes bs) ∷ entry (Local key) (on_region (take off bs)) done ∷ []
+entries (pushes key off len) (bytes bs) = entry (Local key) (on_region (send off len)) (bytes bs) ∷ entry (Global key) (on_region (put off bs)) done ∷ []
 entries q r = []
 
 -- questions and their replies, in order
@@ -93,19 +105,19 @@ counts gs told = map (λ ch. length (told ch)) (channels gs)
 
 -- a reply has the form of its question
 abbrev pub has_form : Question → Reply → Bool
-has_form (ask ch probe) (present b) = true
-has_form (ask ch (read off len)) (bytes bs) = length bs == len
-has_form (ask ch size) (number n) = true
-has_form (ask ch (append bs)) (number n) = true
-has_form (ask ch (append bs)) full = true
+has_form (ask ch (on_region probe)) (present b) = true
+has_form (ask ch (on_region (read off len))) (bytes bs) = length bs == len
+has_form (ask ch (on_region size)) (number n) = true
+has_form (ask ch (on_region (append bs))) (number n) = true
+has_form (ask ch (on_region (append bs))) full = true
 has_form (ask ch (submit f bs)) (child n) = true
 has_form (ask ch (submit f bs)) chain_full = true
 has_form (ask ch (submit f bs)) want = true
 has_form (ask ch (look c)) (finished o bs) = true
-has_form (ask ch (write off bs)) done = true
-has_form (ask ch lock_read) done = true
-has_form (ask ch lock_write) done = true
-has_form (ask ch unlock) done = true
+has_form (ask ch (on_region (write off bs))) done = true
+has_form (ask ch (on_region lock_read)) done = true
+has_form (ask ch (on_region lock_write)) done = true
+has_form (ask ch (on_region unlock)) done = true
 has_form (fills key n) (bytes bs) = length bs == n
 has_form (pulls key off len) (bytes bs) = length bs == len
 has_form (pushes key off len) (bytes bs) = length bs == len

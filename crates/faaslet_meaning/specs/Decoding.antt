@@ -31,7 +31,7 @@ abbrev pub global_limit : ℕ
 global_limit = 65536
 
 -- Some function has more locals than it may, its parameters included. One whose type does not exist counts without
--- parameters. Types and bodies stand in the same order.
+-- parameters. The second list has the types' numbers as `functions` has them, in the order of the bodies.
 abbrev pub some_locals : Module → List ℕ → List Body → Bool
 some_locals m (t ∷ ts) (b ∷ bs) = nat_lt local_limit (length (type_at m t).params + local_count b) || some_locals m ts bs
 some_locals m _ _ = false

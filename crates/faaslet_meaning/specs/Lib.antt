@@ -36,5 +36,16 @@ pub mod Asks
 pub mod Fine
 pub mod Runnable
 pub mod Reach
+pub mod Goes
+pub mod Tiles
+pub mod Asked
+pub mod Formed
 pub mod Report
 pub mod Words
+pub mod Region
+pub mod Placement
+pub mod Records
+pub mod Table
+pub mod History
+pub mod Sections
+pub mod Spelling

@@ -8,7 +8,7 @@ use Rattle.faaslet_meaning.specs.declared.outcome.Trap.TheVariants.{AppendFull, 
 use Rattle.faaslet_meaning.specs.declared.outcome.Outcome.{Outcome}
 use Rattle.faaslet_meaning.specs.declared.outcome.Outcome.TheVariants as outcome
 use Rattle.faaslet_meaning.specs.Memory.{key_pages, page_size, Memory, Access, reads, writes, Written, reading, writing, answered, read_bytes, Touch, reads_piece, writes_piece, touch_of, pages_of, with_map}
-use Rattle.faaslet_meaning.specs.Channels.{Operation, Reply, Question, ask, fills, pulls, pushes}
+use Rattle.faaslet_meaning.specs.Channels.{RegionOperation, Operation, on_region, Reply, Question, ask, fills, pulls, pushes}
 use Rattle.faaslet_meaning.specs.CallState.{Invocation, Tier, local, global, Act, presence, fill, buffer_in, buffer_out, passing, local_read, local_write, push, pull, used, append, map, lock_read, lock_write, unlock, take_input, give_output, submit, await, look, gives, calling, State, grant_at, without_lock}
 use Rattle.faaslet_meaning.specs.Checks.{key_size}
 
@@ -29,8 +29,8 @@ channel j global k = Global (key_at j k)
 
 -- a shared piece is a local Read or Write
 abbrev pub touch_question : Invocation → Touch → Question
-touch_question j (reads_piece k off n) = ask (channel j local k) (Operation.read off n)
-touch_question j (writes_piece k off bs) = ask (channel j local k) (Operation.write off bs)
+touch_question j (reads_piece k off n) = ask (channel j local k) (on_region (RegionOperation.read off n))
+touch_question j (writes_piece k off bs) = ask (channel j local k) (on_region (RegionOperation.write off bs))
 
 -- what a host call carries from act to act: the bytes that it holds, its result so far, and the state
 pub record Carried : Type 0 where
@@ -44,17 +44,17 @@ is_present s k = is_some (find (λ p. p == k) s.present)
 
 -- What an act asks. Presence that was seen before asks nothing, and 0 bytes are asked like any others.
 abbrev pub question_of : Invocation → Carried → Act → Option Question
-question_of j x (presence k) = if is_present x.state k then None else Some (ask (channel j local k) Operation.probe)
+question_of j x (presence k) = if is_present x.state k then None else Some (ask (channel j local k) (on_region RegionOperation.probe))
 question_of j x (fill k) = Some (fills (key_at j k) (key_size j k))
-question_of j x (local_read k off len) = Some (ask (channel j local k) (Operation.read off len))
-question_of j x (local_write k off) = Some (ask (channel j local k) (Operation.write off x.held))
+question_of j x (local_read k off len) = Some (ask (channel j local k) (on_region (RegionOperation.read off len)))
+question_of j x (local_write k off) = Some (ask (channel j local k) (on_region (RegionOperation.write off x.held)))
 question_of j x (push k off len) = Some (pushes (key_at j k) off len)
 question_of j x (pull k off len) = Some (pulls (key_at j k) off len)
-question_of j x (used k) = Some (ask (channel j global k) Operation.size)
-question_of j x (append k) = Some (ask (channel j global k) (Operation.append x.held))
-question_of j x (lock_read t k) = Some (ask (channel j t k) Operation.lock_read)
-question_of j x (lock_write t k) = Some (ask (channel j t k) Operation.lock_write)
-question_of j x (unlock t k) = Some (ask (channel j t k) Operation.unlock)
+question_of j x (used k) = Some (ask (channel j global k) (on_region RegionOperation.size))
+question_of j x (append k) = Some (ask (channel j global k) (on_region (RegionOperation.append x.held)))
+question_of j x (lock_read t k) = Some (ask (channel j t k) (on_region RegionOperation.lock_read))
+question_of j x (lock_write t k) = Some (ask (channel j t k) (on_region RegionOperation.lock_write))
+question_of j x (unlock t k) = Some (ask (channel j t k) (on_region RegionOperation.unlock))
 question_of j x (submit f) = Some (ask Table (Operation.submit (unwrap_or (slice_get j.callees f) 0) x.held))
 question_of j x (await c) = Some (ask Table (Operation.look c))
 question_of j x (look c off len) = Some (ask Table (Operation.look c))

@@ -13,8 +13,8 @@ use Rattle.faaslet_meaning.specs.LoadStore as bytes
 use Rattle.faaslet_meaning.specs.LoadStore.{load_of, load_size, store_of, store_value}
 use Rattle.faaslet_meaning.specs.Tree.{Tree, stop, plain, block, loop, if_then, if_else, IsWritten, types_of}
 
--- 3.1.1, Contexts. `labels` has the innermost first, and last that of the function itself. There is one table at most and
--- one memory.
+-- 3.1.1, Contexts. `labels` has the innermost first, and last that of the function itself. There is at most one
+-- table, and at most one memory.
 pub record Context : Type 0 where
   pub types : List FuncType
   pub functions : List FuncType
@@ -61,7 +61,7 @@ Takes ps qs takes leaves = (ps ≡ takes) × (qs ≡ leaves)
 
 -- An instruction without blocks has the type ps → qs. Floats have none, nor have opcodes that name nothing.
 abbrev pub HasType : Context → Instr → List ValType → List ValType → Type 0
--- 3.3.5, Control Instructions: after `unreachable`, a branch and `return` qs is any list, and so is ps below what is carried
+-- 3.3.5, Control Instructions: after `unreachable`, `br`, `br_table` and `return` qs is any list, and so is ps below what is carried
 HasType c Unreachable ps qs = Unit {0}
 HasType c Nop ps qs = Takes ps qs [] []
 HasType c (Br n) ps qs = (ls xs : List ValType) × LabelIs c n ls × (ps ≡ ls ++ xs)

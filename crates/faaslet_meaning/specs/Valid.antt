@@ -78,7 +78,8 @@ pub record RulesHold (m : Module) : Type 0 where
   pub tables_rise : All Rising (tables m)
   pub memories_rise : All Rising (memories m)
   pub memories_within : All WithinPages (memories m)
-  -- 3.4.4, Globals: the initial value of a global names imported ones alone
+  -- 3.4.10, Modules: globals are checked in a context whose globals are the imported ones, so the initial value of one (3.4.4,
+  -- Globals) names no others
   pub globals_constant : All (λ d. IsConstant (imported_globals m) d.kind.value d.init) m.globals
   pub elements_ok : All (ElementOk m) m.elements
   pub segments_ok : All (SegmentOk m) m.segments
