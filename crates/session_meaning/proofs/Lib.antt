@@ -1,0 +1,64 @@
+pub mod Kept
+pub mod Regions
+pub mod Renumbered
+pub mod Tables
+pub mod WorldParts
+pub mod OneStep
+pub mod Whole
+pub mod FoldedCut
+pub mod Enabled
+pub mod Invariants
+pub mod TwoWorlds
+pub mod CutSteps
+pub mod Paths
+pub mod TableKeeps
+pub mod Later
+pub mod Family
+pub mod DistinctCalls
+pub mod ChildCounts
+pub mod PathTexts
+pub mod NamedPlans
+pub mod Granted
+pub mod GrantedAsks
+pub mod GrantedCalls
+pub mod AsksGranted
+pub mod WorldEnds
+pub mod NamedWorlds
+pub mod NumbersStand
+pub mod Obstacles
+pub mod CutReports
+pub mod TableCuts
+pub mod HistoryCuts
+pub mod ExampleWorlds
+pub mod Asked
+pub mod Worlds
+pub mod Rests
+pub mod Goes
+pub mod OwnHistory
+pub mod Objects
+pub mod RecordsKept
+pub mod OneEntry
+pub mod OneQuestion
+pub mod CallsAlike
+pub mod CallEvents
+pub mod CallsRan
+pub mod LockSteps
+pub mod CallLocks
+pub mod HeldLocks
+pub mod WorldSections
+pub mod OwnSections
+pub mod Schedules
+mod WorldRuns
+mod TraceRuns
+mod OwnEntries
+mod RanSession
+mod TrailRuns
+pub mod Entries
+pub mod KeptLimits
+pub mod FilePlans
+pub mod LoadPlans
+mod ExampleFiles
+mod CutRows
+pub mod Taken
+mod RefusalRows
+pub mod WellFits

@@ -1,0 +1,83 @@
+//! Laws over cuts of sessions. The bodies are empty: what counts is what they ensure.
+
+ghost use Rattle.std.specs.Prelude.{◌≡◌, List, option_map, true};
+ghost use Rattle.session_meaning.specs.declared.event.Event.{Event};
+ghost use Rattle.session_meaning.specs.CallNames.{CallsApart, DistinctLabels, DistinctNames, PathsApart, PlainLabels};
+ghost use Rattle.session_meaning.specs.Cut.{
+  CutStep,
+  CutWorld,
+  call_of,
+  calls_of,
+  cut_event,
+  cut_why,
+  events_cut,
+  plan_cut,
+  world_cut,
+};
+ghost use Rattle.session_meaning.specs.Events.{Worlds, why};
+ghost use Rattle.session_meaning.specs.NamedCut.{events_by_name, NumbersStand, plan_by_name, world_by_name};
+ghost use Rattle.session_meaning.specs.Plan.{Closed, Names, Plan};
+ghost use Rattle.session_meaning.specs.World.{World};
+
+/// Of closed functions and keys the cut of a world is the world of the cut plan under the cut events,
+/// each of which may stand there.
+pub fn cut_is_world()
+    ensures { (plan : Plan) (functions keys : Names) (events : List Event) (w : World)
+        → Closed plan functions keys → Worlds plan events w → CutWorld plan functions keys events w }
+{}
+
+/// Two plans with one cut, and two lists of events with one cut, make two worlds with one cut.
+pub fn one_cut()
+    ensures { (plan other : Plan) (functions keys : Names) (events more : List Event) (w v : World)
+        → Closed plan functions keys → Closed other functions keys
+        → Worlds plan events w → Worlds other more v
+        → plan_cut plan functions keys ≡ plan_cut other functions keys
+        → events_cut plan functions w events ≡ events_cut other functions v more
+        → world_cut plan functions keys w ≡ world_cut other functions keys v }
+{}
+
+/// An event on a call of these functions is an event of the cut world, and any other leaves the cut as it
+/// is.
+pub fn one_event()
+    ensures { (plan : Plan) (functions keys : Names) (events : List Event) (w : World) (e : Event)
+        → Closed plan functions keys → Worlds plan events w → CutStep plan functions keys w e }
+{}
+
+/// An event on a call of these functions may stand in the cut world where it may stand, and else the first
+/// reason against it is the same, with the same call where it names one.
+pub fn one_reason()
+    ensures { (plan : Plan) (functions keys : Names) (events : List Event) (w : World) (e : Event)
+        → Closed plan functions keys → Worlds plan events w
+        → calls_of plan functions w (call_of e) ≡ true
+        → why (world_cut plan functions keys w) (cut_event (calls_of plan functions w) e)
+        ≡ option_map (cut_why (calls_of plan functions w)) (why w e) }
+{}
+
+/// Where the labels of requests differ, different calls of a world have different names.
+pub fn distinct_calls()
+    ensures { (plan : Plan) (events : List Event) (w : World)
+        → DistinctLabels plan → Worlds plan events w → CallsApart plan w.table.records }
+{}
+
+/// Where besides no label has a point, they have different paths.
+pub fn distinct_paths()
+    ensures { (plan : Plan) (events : List Event) (w : World)
+        → DistinctLabels plan → PlainLabels plan → Worlds plan events w → PathsApart plan w.table.records }
+{}
+
+/// Two plans with one cut by names, and two lists of events with one cut by names, make two worlds with
+/// one cut by names.
+pub fn one_cut_by_name()
+    ensures { (plan other : Plan) (functions keys : Names) (events more : List Event) (w v : World)
+        → DistinctNames plan → DistinctLabels plan
+        → Closed plan functions keys → Closed other functions keys
+        → Worlds plan events w → Worlds other more v
+        → plan_by_name plan functions keys ≡ plan_by_name other functions keys
+        → events_by_name plan functions w events ≡ events_by_name other functions v more
+        → world_by_name plan functions keys w ≡ world_by_name other functions keys v }
+{}
+
+/// In a cut by names each number stands for the name that its call, function or key has in the whole.
+pub fn numbers_stand()
+    ensures { (plan : Plan) (functions keys : Names) (w : World) → NumbersStand plan functions keys w }
+{}
