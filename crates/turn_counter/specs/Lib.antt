@@ -1,0 +1,3 @@
+pub mod Tallies
+pub mod Lines
+pub mod Added
