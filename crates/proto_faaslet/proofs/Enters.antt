@@ -1,8 +1,6 @@
 -- The start function, `init` and `main` can be entered.
 use Rattle.std.proofs.Common.{◌≡◌, ℕ, zero, suc, ◌+◌, ◌≤◌, Bool, true, false, List, [], ◌∷◌, ◌++◌, Option, Some, None, length, refl, sym, ap, ◌∙◌, subst, arith}
-use Rattle.std.specs.Prelude.{Contains, slice_get, nat_lt, find, bytes_eq, ◌&&◌, cond, codes, option_map, ◌||◌, if◌then◌else◌}
-use Rattle.std.proofs.lemmas.Bool.{and_parts}
-use Rattle.std.proofs.lemmas.Slice.Eq.{bytes_eq-Decides}
+use Rattle.std.specs.Prelude.{slice_get, nat_lt, codes, ◌||◌, if◌then◌else◌}
 use Rattle.std.proofs.lemmas.Option.{same_Some}
 use Rattle.faaslet_meaning.specs.declared.instr.ValType.TheVariants.{I32}
 use Rattle.faaslet_meaning.specs.declared.module.Export.{Export}
@@ -15,13 +13,13 @@ use Rattle.faaslet_meaning.specs.declared.module.Module.{Module}
 use Rattle.faaslet_meaning.specs.Configuration.{Func, hosted, defined, type_of}
 use Rattle.faaslet_meaning.specs.Decoding.{some_locals, local_limit, passes, first_passed}
 use Rattle.faaslet_meaning.specs.Decoding as decoding
-use Rattle.faaslet_meaning.specs.Fine.{ground_of, FuncOk}
-use Rattle.faaslet_meaning.specs.HostCalls.{HostRow, host_rows, arity}
+use Rattle.faaslet_meaning.specs.Fine.{ground_of}
 use Rattle.faaslet_meaning.specs.IndexSpaces.{function_types, type_at, local_count}
 use Rattle.faaslet_meaning.specs.Program.{bodies_from, host_functions, host_number, functions_of, export_of, is_function}
 use Rattle.faaslet_meaning.specs.Runnable.{HostImports, ExportsOwn, InitFits, MainFits}
-use Rattle.faaslet_meaning.specs.Tree.{Tree, types_of}
+use Rattle.faaslet_meaning.specs.Tree.{Tree}
 use Rattle.faaslet_meaning.specs.Valid.{StartOk, Valid}
+use Rattle.faaslet_meaning.proofs.SoundEntry.{bare_defined, found_export}
 use Rattle.faaslet_meaning.proofs.SoundModules.{IsDefined, function_found}
 use Rattle.proto_faaslet.specs.Entries.{CanEnter}
 
@@ -64,37 +62,10 @@ within m e = by (passes m decoding.params) (some_locals m m.functions m.bodies) 
     by false true s g = let never : ⊥ = cc g in absurd never
     by false false s g = s
 
--- ---- A function without parameters and results is no host call.
-
-abbrev AllFull : List HostRow → Type 0
-AllFull [] = Unit {0}
-AllFull (r ∷ rs) = (arity r.form ≡ 0 → length (types_of r.result) ≡ 0 → ⊥) × AllFull rs
-
-rows_full : AllFull host_rows
-rows_full =
-    (λ e k. omega (arith, e), (λ e k. omega (arith, e), (λ e k. omega (arith, e), (λ e k. omega (arith, e), (λ e k. omega (arith, e), (λ e k. omega (arith, e), (λ e k. omega (arith, e), (λ e k. omega (arith, e), (λ e k. omega (arith, e), (λ e k. omega (arith, e), (λ e k. omega (arith, e), (λ e k. omega (arith, e), (λ e k. omega (arith, e), (λ e k. omega (arith, e), (λ e k. omega (arith, e), (λ e k. omega (arith, e), (λ e k. omega (arith, k), (λ e k. omega (arith, e), (λ e k. omega (arith, e), (λ e k. omega (arith, e), (λ e k. omega (arith, e), (λ e k. omega (arith, e), (λ e k. omega (arith, e), tt)))))))))))))))))))))))
-
-row_full : (rs : List HostRow) (n : ℕ) (r : HostRow) → AllFull rs → slice_get rs n ≡ Some r → arity r.form ≡ 0 → length (types_of r.result) ≡ 0 → ⊥
-row_full [] n r h e a b = cc
-row_full (s ∷ rs) zero r h e a b = let same : s ≡ r = cc in h.0 (ap (λ (q : HostRow). arity q.form) same ∙ a) (ap (λ (q : HostRow). length (types_of q.result)) same ∙ b)
-row_full (s ∷ rs) (suc n) r h e a b = row_full rs n r h.1 e a b
-
--- ---- What is found under a name has it.
+-- ---- What can be entered.
 
 abbrev is_function_export : Export → Bool
 is_function_export e = is_function e.kind
-
-found_export : (name : List ℕ) (test : Export → Bool) (es : List Export) (k : ℕ) → option_map (λ (e : Export). e.index) (find (λ (e : Export). test e && bytes_eq e.name name) es) ≡ Some k → (e : Export) × Contains es e × (e.name ≡ name)
-found_export name test [] k h = absurd (cc)
-found_export name test (e ∷ es) k h = by (test e && bytes_eq e.name name) refl h (found_export name test es k)
-  where
-    by : (b : Bool) → (test e && bytes_eq e.name name) ≡ b → option_map (λ (e : Export). e.index) (cond b (Some e) (find (λ (e : Export). test e && bytes_eq e.name name) es)) ≡ Some k → (option_map (λ (e : Export). e.index) (find (λ (e : Export). test e && bytes_eq e.name name) es) ≡ Some k → (e : Export) × Contains es e × (e.name ≡ name)) → (x : Export) × Contains (e ∷ es) x × (x.name ≡ name)
-    by true t h go = (e, (0, omega arith, refl), (bytes_eq-Decides e.name name).0 (and_parts (test e) (bytes_eq e.name name) t).1)
-    by false t h go =
-        let r = go h in
-        (r.0, (suc r.1.0, omega (arith, r.1.1), r.1.2), r.2)
-
--- ---- What can be entered.
 
 module _ (m : Module) (v : Valid m) (hosts : HostImports m) (limits : first_passed m ≡ None) where
   entered_by : (k : ℕ) (t : FuncType) (f : Func) → slice_get (functions_of m) k ≡ Some f → type_of f ≡ t → t.params ≡ [] → length t.results ≤ 1 → IsDefined f → CanEnter m k
@@ -125,11 +96,7 @@ module _ (m : Module) (v : Valid m) (hosts : HostImports m) (limits : first_pass
       let t : FuncType = record { params = []; results = [] } in
       let type : slice_get (function_types m) k ≡ Some t = subst (λ i. slice_get (function_types m) i ≡ Some t) same h in
       let found = function_found m v hosts k t type in
-      entered_by k t found.function found.at found.type refl (omega arith) (by found.function found.type found.ok)
-    where
-      by : (q : Func) → type_of q ≡ record { params = []; results = [] } → FuncOk (ground_of m) q → IsDefined q
-      by (hosted n t) e o = absurd (row_full host_rows n o.row rows_full o.row_is (o.params ∙ ap (λ (u : FuncType). length u.params) e) (o.results ∙ ap (λ (u : FuncType). length u.results) e))
-      by (defined t n b) e o = tt
+      entered_by k t found.function found.at found.type refl (omega arith) (bare_defined (ground_of m) found.function found.type found.ok)
 
   -- the start function, `init` and `main`
   pub init_enters : InitFits m → (k : ℕ) → export_of m (codes "init") ≡ Some k → CanEnter m k

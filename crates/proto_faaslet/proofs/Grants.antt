@@ -90,15 +90,3 @@ module _ (fs : List Func) (ts : List FuncType) (most : ℕ) (gs hs : List Grant)
       on (touches d b) s go = refl
       on (calls d b) s go = refl
       on stuck s go = refl
-
--- what no step changes, after any number of steps
-pub steps_stay : (quota : ℕ) (table : List (Option ℕ)) (p : Program) (n : ℕ) (c : Configuration) → Steady quota table c → Stays quota table (steps p n c)
-steps_stay quota table p zero c h = h
-steps_stay quota table p (suc n) c h = on (step p c) (step_stays quota table p c h) (steps_stay quota table p n)
-  where
-    on : (x : Next) → Stays quota table x → ((d : Configuration) → Steady quota table d → Stays quota table (steps p n d)) → Stays quota table (then_go x (steps p n))
-    on (goes d) s go = go d s
-    on (ends d o) s go = s
-    on (touches d b) s go = s
-    on (calls d b) s go = s
-    on stuck s go = s

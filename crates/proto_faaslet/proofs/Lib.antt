@@ -3,6 +3,7 @@ pub mod Built
 pub mod Enters
 pub mod First
 pub mod Grants
+pub mod Images
 pub mod Made
 pub mod Passing
 pub mod Pieces

@@ -16,13 +16,14 @@ use Rattle.faaslet_meaning.specs.Memory.{Home, private, mapped, Segment, page_li
 use Rattle.faaslet_meaning.specs.Program.{functions_of, program_of, memory_limits}
 use Rattle.faaslet_meaning.specs.Bounds.{weight}
 use Rattle.faaslet_meaning.specs.Step.{step}
-use Rattle.faaslet_meaning.proofs.Quiet.{IsPrivate, AllPrivate, Private, IsEnd, Quiet, step_quiet}
+use Rattle.faaslet_meaning.proofs.Quiet.{IsPrivate, AllPrivate, Quiet, steps_quiet}
+use Rattle.faaslet_meaning.proofs.StepWalk.{IsEnd}
 use Rattle.faaslet_meaning.proofs.Weight.{ends_by}
 use Rattle.proto_faaslet.specs.Entries.{CanEnter, IsKept, IsFor, Passes, begun, fault_of_outcome}
 use Rattle.proto_faaslet.specs.Instances.{IsOne}
-use Rattle.proto_faaslet.proofs.Grants.{steps_same, steps_stay}
+use Rattle.proto_faaslet.proofs.Grants.{steps_same}
 use Rattle.proto_faaslet.proofs.Made.{tested}
-use Rattle.proto_faaslet.proofs.Steady.{Steady, Stays}
+use Rattle.proto_faaslet.proofs.Steady.{Steady, Stays, steps_stay}
 
 -- ---- More steps change nothing once a run does not go on.
 
@@ -74,17 +75,6 @@ steps_all p k n c x heavy e h = by (nat_le k n) refl
 
 -- ---- Where memory is private, a run ends or stops at a host call.
 
-quiet_on : (x : Next) (go : Configuration → Next) → Quiet x → ((d : Configuration) → Private d → Quiet (go d)) → Quiet (then_go x go)
-quiet_on (goes d) go h k = k d h
-quiet_on (ends d o) go h k = h
-quiet_on (touches d b) go h k = h
-quiet_on (calls d b) go h k = h
-quiet_on stuck go h k = h
-
-steps_quiet : (p : Program) (n : ℕ) (c : Configuration) → Private c → Quiet (steps p n c)
-steps_quiet p zero c h = h
-steps_quiet p (suc n) c h = quiet_on (step p c) (steps p n) (step_quiet p c h) (steps_quiet p n)
-
 one_private : (ss : List Segment) → IsOne ss → AllPrivate ss
 one_private [] h = absurd h
 one_private (s ∷ []) h = (by s.home h, tt)
@@ -117,7 +107,7 @@ module _ (m : Module) (gs : List Grant) (q fuel k : ℕ) (e : CanEnter m k) (s :
   steady = ((kept.one, kept.quota_is), refl)
 
   stays : (n : ℕ) (x : Next) → steps p n first ≡ x → Stays q s.table x
-  stays n x is = subst (Stays q s.table) is (steps_stay q s.table p n first steady)
+  stays n x is = subst (λ y. Stays q s.table y) is (steps_stay q s.table p n first steady)
 
   pub quiet : (n : ℕ) (x : Next) → steps p n first ≡ x → Quiet x
   quiet n x is = subst Quiet is (steps_quiet p n first (one_private s.memory.segments kept.one))
@@ -144,7 +134,7 @@ module _ (m : Module) (gs : List Grant) (q fuel k : ℕ) (e : CanEnter m k) (s :
 
   -- a run that is done leaves what its configuration has
   pub done : (n : ℕ) (d : Configuration) (v : ℤ) → steps p n first ≡ ends d (outcome.Done v) → Keeps (ground_of m) d → Passes m q fuel (Some k) s (kept_of d)
-  done n d v is typed = record { kept = kept_after d typed (stays n _ is); through_is = λ f for. passed_by n _ is (tt {0}) f for }
+  done n d v is typed = record { kept = kept_after d typed (stays n _ is).0; through_is = λ f for. passed_by n _ is (tt {0}) f for }
 
   -- a run that ends otherwise, or calls the host, breaks the function
   pub ended : (n : ℕ) (d : Configuration) (o : Outcome) (kind : Broken) → steps p n first ≡ ends d o → fault_of_outcome o ≡ Some kind → (f : Function) → IsFor f m q fuel → through f (Some k) s ≡ breaks kind

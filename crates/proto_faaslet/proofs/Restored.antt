@@ -13,8 +13,8 @@ use Rattle.faaslet_meaning.specs.Tree.{Tree}
 use Rattle.wasm_interp.specs.declared.machine.Machine.{Machine}
 use Rattle.wasm_interp.specs.StandsFor.{Agrees, IsEntry, StandsFor}
 use Rattle.proto_faaslet.specs.Entries.{CanEnter, IsFor, begun}
-use Rattle.region_map.specs.Pages.{last_content}
-use Rattle.region_map.specs.Segments.{Segmented, backing_of, set_back}
+use Rattle.private_pages.specs.Pages.{last_content}
+use Rattle.region_map.specs.Segments.{Segmented, backing_of, IsSetBack}
 use Rattle.wasm_interp.specs.Grants.{grants_of}
 use Rattle.wasm_interp.proofs.Agreeing.{grants_agree}
 use Rattle.proto_faaslet.specs.Snapshots.{Snapshot, stored, image_memory}
@@ -55,5 +55,5 @@ backing_so new old p same memory last =
     ap backing_of same ∙ backing_with old.memory.quota p.quota old.room old.last (Some p.image) (ap (λ (m : Memory). m.quota) memory) last
 
 -- the memory of the image that was restored last
-pub set_back_is : (m : Segmented) (c : Content) (q : ℕ) → m.last ≡ Some c → m.memory.quota ≡ q → (set_back m).memory ≡ image_memory c q
-set_back_is m c q last quota = ap (λ (o : Option Content). image_memory (last_content o) m.memory.quota) last ∙ ap (image_memory c) quota
+pub set_back_is : (m n : Segmented) (c : Content) (q : ℕ) → IsSetBack m n → m.last ≡ Some c → m.memory.quota ≡ q → n.memory ≡ image_memory c q
+set_back_is m n c q h last quota = h.memory ∙ ap (λ (o : Option Content). image_memory (last_content o) m.memory.quota) last ∙ ap (image_memory c) quota

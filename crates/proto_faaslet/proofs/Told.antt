@@ -14,7 +14,8 @@ use Rattle.faaslet_meaning.specs.Fine.{ground_of, NextOk}
 use Rattle.faaslet_meaning.specs.Fresh.{Function, Store, breaks, steps, through}
 use Rattle.faaslet_meaning.specs.Memory.{Memory}
 use Rattle.faaslet_meaning.specs.Program.{program_of}
-use Rattle.faaslet_meaning.proofs.Quiet.{IsEnd, Quiet}
+use Rattle.faaslet_meaning.proofs.Quiet.{Quiet}
+use Rattle.faaslet_meaning.proofs.StepWalk.{IsEnd}
 use Rattle.wasm_interp.specs.declared.machine.Event.{Event}
 use Rattle.wasm_interp.specs.declared.machine.Event.TheVariants as event
 use Rattle.wasm_interp.specs.declared.machine.Machine.{Machine}

@@ -26,7 +26,11 @@ pub fn image_of<M: Linear>(alloc: Global, memory: &M) -> Result<Image, AllocErro
     ensures bytes { IfOk result (λ i. i.bytes ≡ (M.memory memory.now).bytes) }
 {
     let pages = memory.pages();
-    let mut bytes = zeros(alloc, pages as usize * PAGE)?;
-    memory.read_private(0, &mut bytes);
-    Ok(Image::new(pages, bytes))
+    let mut page = zeros(alloc, PAGE)?;
+    let mut image = Image::new(alloc);
+    for place in 0..pages {
+        memory.read_private(u64::from(place) * 65_536, &mut page);
+        image.push(&page)?;
+    }
+    Ok(image)
 }

@@ -11,7 +11,4 @@ mod segments;
 mod table;
 
 pub use fault::BuildFault;
-pub use proto::{Proto, room_of};
-
-#[cfg(test)]
-mod tests;
+pub use proto::{Proto, empty_memory, machine_over, room_of};

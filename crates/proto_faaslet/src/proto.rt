@@ -1,6 +1,6 @@
 //! Snapshots.
 
-ghost use Rattle.std.specs.Prelude.{◌≡◌, ◌≤◌, None, Some, IfOk, IfErr, length};
+ghost use Rattle.std.specs.Prelude.{◌≡◌, ◌+◌, ◌≤◌, None, Some, IfOk, IfErr, length};
 ghost use Rattle.faaslet_meaning.specs.Decoding.{first_passed};
 ghost use Rattle.faaslet_meaning.specs.Fresh.{Function, fresh};
 ghost use Rattle.faaslet_meaning.specs.IndexSpaces as spaces;
@@ -16,7 +16,7 @@ use crate::fault::BuildFault;
 use crate::image::image_of;
 use crate::instantiation::{Instance, elements_of, instantiate};
 use function_rules::export_of;
-use region_map::{Image, PlainPages, SegmentedMemory};
+use region_map::{Image, PrivatePages, SegmentedMemory};
 use std::alloc::{AllocError, Global};
 use std::marker::Model;
 use wasm_interp::{Machine, Room};
@@ -58,17 +58,17 @@ pub fn room_of(module: &ValidModule) -> Room
 }
 
 /// A memory without a page.
-pub(crate) fn empty_memory<'s>(alloc: Global, quota: u32) -> Result<SegmentedMemory<'s>, AllocError>
+pub fn empty_memory<'s>(alloc: Global, quota: u32) -> Result<SegmentedMemory<'s>, AllocError>
     requires { quota ≤ page_limit }
     ensures memory { IfOk result (λ m. m.memory ≡ no_pages quota) }
     ensures room { IfOk result (λ m. m.room ≡ quota) }
 {
-    let pages = PlainPages::new(alloc, quota)?;
+    let pages = PrivatePages::with_room(alloc, quota)?;
     SegmentedMemory::new(alloc, pages)
 }
 
 /// A machine over this memory.
-pub(crate) fn machine_over<'s>(
+pub fn machine_over<'s>(
     alloc: Global,
     module: &ValidModule,
     memory: SegmentedMemory<'s>,
@@ -77,6 +77,7 @@ pub(crate) fn machine_over<'s>(
     requires limits { first_passed «module».now ≡ None }
     ensures memory { IfOk result (λ m. m.memory ≡ memory.entry) }
     ensures room { IfOk result (λ m. HasRoom m «module».now) }
+    ensures writable { IfOk result (λ m. m.writable ≡ 0) }
 {
     match Machine::new(alloc, memory, room_of(module)) {
         Ok(machine) => Ok(machine),
@@ -139,7 +140,8 @@ impl<'s> Proto<'s> {
         requires room { HasRoom machine.old self.now.code }
         requires memory { machine.old.memory.memory ≡ image_memory self.now.image self.now.quota }
         requires last { machine.old.memory.last ≡ Some self.now.image }
-        ensures { IsRestored self.now fuel machine.old machine.new }
+        ensures restored { IsRestored self.now fuel machine.old machine.new }
+        ensures memory { machine.new.memory ≡ machine.old.memory }
     {
         machine.begin(
             self.module,
@@ -155,7 +157,9 @@ impl<'s> Proto<'s> {
     pub fn restore(&'s self, machine: &mut Machine<'s, SegmentedMemory<'s>>, fuel: u64)
         requires room { HasRoom machine.old self.now.code }
         requires pages { self.now.quota ≤ machine.old.memory.room }
-        ensures { IsRestored self.now fuel machine.old machine.new }
+        ensures restored { IsRestored self.now fuel machine.old machine.new }
+        ensures dirty { machine.new.memory.dirty ≡ 0 }
+        ensures work { machine.new.memory.work ≤ machine.old.memory.work + machine.old.memory.dirty }
     {
         machine.memory_mut().restore(&self.image, self.quota);
         self.begin(machine, fuel);
@@ -166,7 +170,9 @@ impl<'s> Proto<'s> {
         requires room { HasRoom machine.old self.now.code }
         requires last { machine.old.memory.last ≡ Some self.now.image }
         requires quota { machine.old.memory.memory.quota ≡ self.now.quota }
-        ensures { IsRestored self.now fuel machine.old machine.new }
+        ensures restored { IsRestored self.now fuel machine.old machine.new }
+        ensures dirty { machine.new.memory.dirty ≡ 0 }
+        ensures work { machine.new.memory.work ≤ machine.old.memory.work + machine.old.memory.dirty }
     {
         machine.memory_mut().reset();
         self.begin(machine, fuel);

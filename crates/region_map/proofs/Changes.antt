@@ -3,12 +3,12 @@ use Rattle.std.proofs.Common.{◌≡◌, ℕ, ◌+◌, ◌*◌, ◌<◌, ◌≤�
 use Rattle.std.specs.Prelude.{min}
 use Rattle.std.proofs.lemmas.List.{append-nil, take_all, length_push}
 use Rattle.std.proofs.lemmas.List.Elements.{All-nil, All-push}
-use Rattle.faaslet_meaning.specs.Memory.{private, mapped, Segment, IsMemory, page_size, page_limit, grant_limit, mapping_limit, pages_of, private_pages, with_pages, grown, with_map, unmapped, over, put, mappings, may_map, may_grow, lies_in, IsPrivate, IsFirstPiece}
+use Rattle.faaslet_meaning.specs.Memory.{Content, private, mapped, Segment, IsMemory, page_size, page_limit, grant_limit, mapping_limit, pages_of, private_pages, with_pages, grown, with_map, unmapped, put, mappings, may_map, may_grow, lies_in, IsPrivate, IsFirstPiece}
 use Rattle.faaslet_meaning.specs.declared.linear.Home.TheVariants as code
 use Rattle.region_map.specs.declared.segments.Spot.TheVariants.{Private, Shared}
 use Rattle.std.proofs.lemmas.Bool.{le-leb, leb-true}
 use Rattle.region_map.proofs.Spots.{past, cut_spot}
-use Rattle.region_map.specs.Pages.{Pages, ArePages}
+use Rattle.private_pages.specs.Pages.{Pages, ArePages, IsWritten}
 use Rattle.region_map.specs.declared.segments.Mapping.{Mapping}
 use Rattle.region_map.specs.declared.segmented.SegmentedMemory.TheInside.{Inside}
 use Rattle.region_map.specs.Segments.{all_segments, spread, memory_of, IsMapping, AreSegments, IsPlace, Segmented, spot_of}
@@ -27,7 +27,7 @@ alone k b h = append-nil _ ∙ take_all (k * page_size) b (omega arith)
 pub one_memory : (k : ℕ) (b : List ℕ) (quota : ℕ) → length b ≡ k * page_size → memory_of (all_segments k []) b quota ≡ record { segments = record { home = private; pages = k } ∷ []; bytes = b; quota = quota }
 one_memory k b quota h = rw (alone k b h) refl
 
-pub one_are : (k : ℕ) (p : Pages) → p.pages ≡ k → ArePages p → AreSegments k k [] p
+pub one_are : (k : ℕ) (p : Pages) → p.content.pages ≡ k → ArePages p → AreSegments k k [] p
 one_are k p e h = record {
   count = omega arith;
   few = omega (arith, h.within, h.roomy, h.few);
@@ -37,12 +37,12 @@ one_are k p e h = record {
   are = h;
 }
 
-pub unmapped_is : (first : ℕ) (ms : List Mapping) (pages : ℕ) (p : Pages) → AreSegments first pages ms p → memory_of (all_segments p.pages []) p.bytes p.quota ≡ unmapped (memory_of (all_segments first ms) p.bytes p.quota)
+pub unmapped_is : (first : ℕ) (ms : List Mapping) (pages : ℕ) (p : Pages) → AreSegments first pages ms p → memory_of (all_segments p.content.pages []) p.content.bytes p.quota ≡ unmapped (memory_of (all_segments first ms) p.content.bytes p.quota)
 unmapped_is first ms pages p h =
-    let l : length p.bytes ≡ private_pages (all_segments first ms) * page_size = h.are.whole ∙ ap (λ (n : ℕ). n * page_size) h.privates in
-    one_memory p.pages p.bytes p.quota h.are.whole
-    ∙ ap (λ (k : ℕ). record { segments = record { home = private; pages = k } ∷ []; bytes = p.bytes; quota = p.quota }) h.privates
-    ∙ ap (λ (b : List ℕ). record { segments = record { home = private; pages = private_pages (all_segments first ms) } ∷ []; bytes = b; quota = p.quota }) (sym (private_spread (all_segments first ms) p.bytes l))
+    let l : length p.content.bytes ≡ private_pages (all_segments first ms) * page_size = h.are.content.whole ∙ ap (λ (n : ℕ). n * page_size) h.privates in
+    one_memory p.content.pages p.content.bytes p.quota h.are.content.whole
+    ∙ ap (λ (k : ℕ). record { segments = record { home = private; pages = k } ∷ []; bytes = p.content.bytes; quota = p.quota }) h.privates
+    ∙ ap (λ (b : List ℕ). record { segments = record { home = private; pages = private_pages (all_segments first ms) } ∷ []; bytes = b; quota = p.quota }) (sym (private_spread (all_segments first ms) p.content.bytes l))
 
 -- ---- one more mapping
 
@@ -73,7 +73,7 @@ mapped_is first ms place n b quota =
 
 -- ---- more pages
 
-pub grown_are : (first longer : ℕ) (ms ns : List Mapping) (pages n : ℕ) (p q : Pages) → AreSegments first pages ms p → all_segments longer ns ≡ with_pages (all_segments first ms) n → All IsMapping ns → length ns ≡ length ms → pages + n ≤ page_limit → q.pages ≡ p.pages + n → ArePages q → AreSegments longer (pages + n) ns q
+pub grown_are : (first longer : ℕ) (ms ns : List Mapping) (pages n : ℕ) (p q : Pages) → AreSegments first pages ms p → all_segments longer ns ≡ with_pages (all_segments first ms) n → All IsMapping ns → length ns ≡ length ms → pages + n ≤ page_limit → q.content.pages ≡ p.content.pages + n → ArePages q → AreSegments longer (pages + n) ns q
 grown_are first longer ms ns pages n p q h e each many few more are = record {
   count = omega (arith, h.count, ap pages_of e, pages_grown (all_segments first ms) n);
   few = few;
@@ -83,36 +83,36 @@ grown_are first longer ms ns pages n p q h e each many few more are = record {
   are = are;
 }
 
-pub grown_is : (first longer : ℕ) (ms ns : List Mapping) (pages n : ℕ) (p : Pages) → AreSegments first pages ms p → all_segments longer ns ≡ with_pages (all_segments first ms) n → memory_of (all_segments longer ns) (p.bytes ++ replicate (n * page_size) 0) p.quota ≡ grown (memory_of (all_segments first ms) p.bytes p.quota) n
+pub grown_is : (first longer : ℕ) (ms ns : List Mapping) (pages n : ℕ) (p : Pages) → AreSegments first pages ms p → all_segments longer ns ≡ with_pages (all_segments first ms) n → memory_of (all_segments longer ns) (p.content.bytes ++ replicate (n * page_size) 0) p.quota ≡ grown (memory_of (all_segments first ms) p.content.bytes p.quota) n
 grown_is first longer ms ns pages n p h e =
-    let l : length p.bytes ≡ private_pages (all_segments first ms) * page_size = h.are.whole ∙ ap (λ (k : ℕ). k * page_size) h.privates in
-    ap (λ (ss : List Segment). memory_of ss (p.bytes ++ replicate (n * page_size) 0) p.quota) e ∙ rw (spread_grown (all_segments first ms) p.bytes n l) refl
+    let l : length p.content.bytes ≡ private_pages (all_segments first ms) * page_size = h.are.content.whole ∙ ap (λ (k : ℕ). k * page_size) h.privates in
+    ap (λ (ss : List Segment). memory_of ss (p.content.bytes ++ replicate (n * page_size) 0) p.quota) e ∙ rw (spread_grown (all_segments first ms) p.content.bytes n l) refl
 
 -- ---- the clauses, said of the fields
 
-pub written_are : (first : ℕ) (ms : List Mapping) (pages : ℕ) (p q : Pages) → AreSegments first pages ms p → q.pages ≡ p.pages → ArePages q → AreSegments first pages ms q
+pub written_are : (first : ℕ) (ms : List Mapping) (pages : ℕ) (p q : Pages) → AreSegments first pages ms p → q.content.pages ≡ p.content.pages → ArePages q → AreSegments first pages ms q
 written_are first ms pages p q h e are = record { count = h.count; few = h.few; privates = e ∙ h.privates; mapped = h.mapped; each = h.each; are = are }
 
-pub written_now : (s : Inside) (m : Segmented) (at n place : ℕ) (new : List ℕ) (q : Pages) → memory_in s ≡ m → IsSegmented s → IsPlace (all_segments s.first s.mappings.items) at n place → length new ≡ n → q ≡ record s.bytes { bytes = over s.bytes.bytes place new } → IsTrue (lies_in m.memory at n) × IsPrivate m.memory at n × (memory_of (all_segments s.first s.mappings.items) q.bytes q.quota ≡ put m.memory at new)
-written_now s m at n place new q e h p k w =
+pub written_now : (s : Inside) (m : Segmented) (at n place : ℕ) (new : List ℕ) (q : Pages) → memory_in s ≡ m → IsSegmented s → IsPlace (all_segments s.first s.mappings.items) at n place → length new ≡ n → (most : ℕ) → IsWritten s.bytes q place new most → IsTrue (lies_in m.memory at n) × IsPrivate m.memory at n × (memory_of (all_segments s.first s.mappings.items) q.content.bytes q.quota ≡ put m.memory at new)
+written_now s m at n place new q e h p k most w =
     let ss = all_segments s.first s.mappings.items in
-    let l : length s.bytes.bytes ≡ private_pages ss * page_size = h.are.are.whole ∙ ap (λ (i : ℕ). i * page_size) h.are.privates in
-    let P : Segmented → Type 0 = λ v. IsTrue (lies_in v.memory at n) × IsPrivate v.memory at n × (memory_of ss q.bytes q.quota ≡ put v.memory at new) in
-    subst P e (le-leb _ _ p.inside, p.alone, rw (w, p.writes s.bytes.bytes new l k) refl)
+    let l : length s.bytes.content.bytes ≡ private_pages ss * page_size = h.are.are.content.whole ∙ ap (λ (i : ℕ). i * page_size) h.are.privates in
+    let P : Segmented → Type 0 = λ v. IsTrue (lies_in v.memory at n) × IsPrivate v.memory at n × (memory_of ss q.content.bytes q.quota ≡ put v.memory at new) in
+    subst P e (le-leb _ _ p.inside, p.alone, rw (ap (λ (c : Content). c.bytes) w.content, w.quota, p.writes s.bytes.content.bytes new l k) refl)
 
 pub room_to_map : (s : Inside) (m : Segmented) → memory_in s ≡ m → mappings m.memory < mapping_limit → length s.mappings.items < mapping_limit
 room_to_map s m e h =
     let few = rw (← e) at h in
     omega (arith, mappings_many s.first s.mappings.items)
 
-pub mapped_now : (s : Inside) (m : Segmented) (place n : ℕ) → memory_in s ≡ m → IsSegmented s → s.pages + n ≤ page_limit → IsTrue (may_map m.memory n) × (memory_of (all_segments s.first (s.mappings.items ++ mapping_at place n ∷ [])) s.bytes.bytes s.bytes.quota ≡ with_map m.memory place n)
+pub mapped_now : (s : Inside) (m : Segmented) (place n : ℕ) → memory_in s ≡ m → IsSegmented s → s.pages + n ≤ page_limit → IsTrue (may_map m.memory n) × (memory_of (all_segments s.first (s.mappings.items ++ mapping_at place n ∷ [])) s.bytes.content.bytes s.bytes.quota ≡ with_map m.memory place n)
 mapped_now s m place n e h few =
-    let P : Segmented → Type 0 = λ v. IsTrue (may_map v.memory n) × (memory_of (all_segments s.first (s.mappings.items ++ mapping_at place n ∷ [])) s.bytes.bytes s.bytes.quota ≡ with_map v.memory place n) in
-    subst P e (le-leb _ _ (omega (arith, h.are.count)), mapped_is s.first s.mappings.items place n s.bytes.bytes s.bytes.quota)
+    let P : Segmented → Type 0 = λ v. IsTrue (may_map v.memory n) × (memory_of (all_segments s.first (s.mappings.items ++ mapping_at place n ∷ [])) s.bytes.content.bytes s.bytes.quota ≡ with_map v.memory place n) in
+    subst P e (le-leb _ _ (omega (arith, h.are.count)), mapped_is s.first s.mappings.items place n s.bytes.content.bytes s.bytes.quota)
 
-pub grown_now : (s : Inside) (m : Segmented) (longer : ℕ) (ns : List Mapping) (n max : ℕ) (q : Pages) → memory_in s ≡ m → IsSegmented s → all_segments longer ns ≡ with_pages (all_segments s.first s.mappings.items) n → s.pages + n ≤ min max page_limit → s.bytes.pages + n ≤ s.bytes.quota → q ≡ record s.bytes { pages = s.bytes.pages + n; bytes = s.bytes.bytes ++ replicate (n * page_size) 0 } → IsTrue (may_grow m.memory n max) × (memory_of (all_segments longer ns) q.bytes q.quota ≡ grown m.memory n)
+pub grown_now : (s : Inside) (m : Segmented) (longer : ℕ) (ns : List Mapping) (n max : ℕ) (q : Pages) → memory_in s ≡ m → IsSegmented s → all_segments longer ns ≡ with_pages (all_segments s.first s.mappings.items) n → s.pages + n ≤ min max page_limit → s.bytes.content.pages + n ≤ s.bytes.quota → q ≡ record s.bytes { content = record { pages = s.bytes.content.pages + n; bytes = s.bytes.content.bytes ++ replicate (n * page_size) 0 } } → IsTrue (may_grow m.memory n max) × (memory_of (all_segments longer ns) q.content.bytes q.quota ≡ grown m.memory n)
 grown_now s m longer ns n max q e h l few within w =
-    let P : Segmented → Type 0 = λ v. IsTrue (may_grow v.memory n max) × (memory_of (all_segments longer ns) q.bytes q.quota ≡ grown v.memory n) in
+    let P : Segmented → Type 0 = λ v. IsTrue (may_grow v.memory n max) × (memory_of (all_segments longer ns) q.content.bytes q.quota ≡ grown v.memory n) in
     let a = le-leb (pages_of (all_segments s.first s.mappings.items) + n) (min max page_limit) (omega (arith, h.are.count)) in
     let b = le-leb (private_pages (all_segments s.first s.mappings.items) + n) s.bytes.quota (omega (arith, h.are.privates)) in
     subst P e (rw (a, b) refl, rw w (grown_is s.first longer s.mappings.items ns s.pages n s.bytes h.are l))

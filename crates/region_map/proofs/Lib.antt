@@ -1,5 +1,3 @@
 mod Changes
-mod Numbers
-mod Overs
 mod Spots
 mod Spread

@@ -8,7 +8,7 @@ use Rattle.region_map.specs.declared.segments.Mapping.{Mapping}
 use Rattle.region_map.specs.declared.segments.Spot.{Spot}
 use Rattle.region_map.specs.declared.segments.Spot.TheVariants.{Private, Shared}
 use Rattle.region_map.specs.Segments.{private_behind, segments_of, all_segments, spread, spot_of, IsMapping, IsPlace, IsElsewhere}
-use Rattle.region_map.proofs.Overs.{part_of, drop_behind, over_behind, over_front, over_take, over_drop, over_take_behind, over_drop_behind}
+use Rattle.private_pages.proofs.Overs.{part_of, drop_behind, over_behind, over_front, over_take, over_drop, over_take_behind, over_drop_behind}
 
 -- what is read and written at a private address, `q` bytes behind the first private byte of these segments
 pub record Held (ss : List Segment) (b : List ℕ) (before at p left : ℕ) : Type 0 where

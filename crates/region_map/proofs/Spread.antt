@@ -4,7 +4,7 @@ use Rattle.std.specs.Prelude.{filter}
 use Rattle.std.proofs.lemmas.List.Elements.{All-nil, All-cons, All-append, All-pop, All-push}
 use Rattle.std.proofs.lemmas.List.{append-nil, length-append, length-drop, length-take-le, length-replicate, take-append-le, drop-append-le, take_at, drop_at, take-append-drop, take_all, nil_from_length}
 use Rattle.faaslet_meaning.specs.Memory.{Home, private, mapped, Segment, IsMemory, MappedZero, HasPlace, is_private, page_size, pages_of, private_pages, private_bytes, with_pages}
-use Rattle.region_map.specs.Pages.{Pages}
+use Rattle.private_pages.specs.Pages.{Pages}
 use Rattle.region_map.specs.declared.segments.Mapping.{Mapping}
 use Rattle.region_map.specs.Segments.{private_behind, segments_of, all_segments, spread, memory_of, IsMapping, AreSegments}
 
@@ -209,12 +209,12 @@ places_all (m ∷ ms) h =
     let rest : All IsMapping ms = λ k d l. h (suc k) d (omega arith) in
     All-cons Placed (record { home = mapped m.place; pages = m.pages }) (private_behind m.behind ++ segments_of ms) one.place (All-append Placed (private_behind m.behind) (segments_of ms) (places_behind m.behind) (places_all ms rest))
 
-pub is_memory : (first pages : ℕ) (ms : List Mapping) (p : Pages) → AreSegments first pages ms p → IsMemory (memory_of (all_segments first ms) p.bytes p.quota)
+pub is_memory : (first pages : ℕ) (ms : List Mapping) (p : Pages) → AreSegments first pages ms p → IsMemory (memory_of (all_segments first ms) p.content.bytes p.quota)
 is_memory first pages ms p h =
-    let l : length p.bytes ≡ private_pages (all_segments first ms) * page_size = h.are.whole ∙ ap (λ (n : ℕ). n * page_size) h.privates in
+    let l : length p.content.bytes ≡ private_pages (all_segments first ms) * page_size = h.are.content.whole ∙ ap (λ (n : ℕ). n * page_size) h.privates in
     record {
-      long = length_spread (all_segments first ms) p.bytes l;
-      zero = zero_spread (all_segments first ms) p.bytes l;
+      long = length_spread (all_segments first ms) p.content.bytes l;
+      zero = zero_spread (all_segments first ms) p.content.bytes l;
       few = omega (arith, h.count, h.few);
       within = omega (arith, h.privates, h.are.within);
       mapped = omega (arith, mappings_many first ms, h.mapped);

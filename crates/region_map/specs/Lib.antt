@@ -1,4 +1,2 @@
-pub mod Pages
-pub mod PlainPages
 pub mod Segments
 pub mod SegmentedMemory

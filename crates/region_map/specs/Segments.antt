@@ -5,7 +5,7 @@ use Rattle.faaslet_meaning.specs.Memory.{Backing, Content, Home, private, mapped
 use Rattle.region_map.specs.declared.segments.Mapping.{Mapping}
 use Rattle.region_map.specs.declared.segments.Spot.{Spot}
 use Rattle.region_map.specs.declared.segments.Spot.TheVariants.{Private, Shared}
-use Rattle.region_map.specs.Pages.{Pages, ArePages, last_content}
+use Rattle.private_pages.specs.Pages.{Pages, ArePages, last_content}
 
 abbrev pub private_behind : Option ℕ → List Segment
 private_behind None = []
@@ -53,16 +53,19 @@ pub record IsMapping (m : Mapping) : Type 0 where
 pub record AreSegments (first pages : ℕ) (ms : List Mapping) (p : Pages) : Type 0 where
   pub count : pages ≡ pages_of (all_segments first ms)
   pub few : pages ≤ page_limit
-  pub privates : p.pages ≡ private_pages (all_segments first ms)
+  pub privates : p.content.pages ≡ private_pages (all_segments first ms)
   pub mapped : length ms ≤ mapping_limit
   pub each : All IsMapping ms
   pub are : ArePages p
 
--- a memory, the image that it is set back to, and for how many private pages there is room
+-- a memory, the image that it is set back to, for how many private pages there is room, how many of them were written
+-- since, and the work of the pool that they are on
 pub record Segmented : Type 0 where
   pub memory : Memory
   pub room : ℕ
   pub last : Option Content
+  pub dirty : ℕ
+  pub work : ℕ
 
 abbrev pub backing_of : Segmented → Backing
 backing_of m = record { quota = m.memory.quota; room = m.room; last = m.last }
@@ -70,9 +73,11 @@ backing_of m = record { quota = m.memory.quota; room = m.room; last = m.last }
 -- the memory with these private pages alone
 abbrev pub one_segment : Pages → Segmented
 one_segment p = record {
-  memory = record { segments = record { home = private; pages = p.pages } ∷ []; bytes = p.bytes; quota = p.quota };
+  memory = record { segments = record { home = private; pages = p.content.pages } ∷ []; bytes = p.content.bytes; quota = p.quota };
   room = p.room;
   last = p.last;
+  dirty = p.dirty;
+  work = p.work;
 }
 
 -- Where a range is among the private bytes, that is all there, not empty, and all private: what it is for, said of any
@@ -88,16 +93,23 @@ pub record IsPlace (ss : List Segment) (at n place : ℕ) : Type 0 where
 pub record IsElsewhere (ss : List Segment) (at n : ℕ) : Type 0 where
   pub never : at + n ≤ pages_of ss * page_size → filter (λ p. not (is_private p.home)) (cut ss 0 at n) ≡ [] → ⊥
 
--- the memory as an image has it
-abbrev pub restored : Segmented → Content → ℕ → Segmented
-restored m c quota = record {
-  memory = record { segments = record { home = private; pages = c.pages } ∷ []; bytes = c.bytes; quota = quota };
-  room = m.room;
-  last = Some c;
-}
+-- one private segment with this content, and a quota
+abbrev pub content_memory : Content → ℕ → Memory
+content_memory c quota = record { segments = record { home = private; pages = c.pages } ∷ []; bytes = c.bytes; quota = quota }
 
--- the memory as the image that was restored last has it, with its quota
-abbrev pub set_back : Segmented → Segmented
-set_back m = record m {
-  memory = record m.memory { segments = record { home = private; pages = (last_content m.last).pages } ∷ []; bytes = (last_content m.last).bytes };
-}
+-- The memory has the content of an image, which from then on is the last. No page is written, and the pool was called at
+-- most once for each that was: for none that the image has.
+pub record IsRestoredTo (m : Segmented) (c : Content) (quota : ℕ) (n : Segmented) : Type 0 where
+  pub memory : n.memory ≡ content_memory c quota
+  pub room : n.room ≡ m.room
+  pub last : n.last ≡ Some c
+  pub dirty : n.dirty ≡ 0
+  pub work : n.work ≤ m.work + m.dirty
+
+-- the same with the image that was restored last, and the quota as it is
+pub record IsSetBack (m n : Segmented) : Type 0 where
+  pub memory : n.memory ≡ content_memory (last_content m.last) m.memory.quota
+  pub room : n.room ≡ m.room
+  pub last : n.last ≡ m.last
+  pub dirty : n.dirty ≡ 0
+  pub work : n.work ≤ m.work + m.dirty

@@ -3,13 +3,12 @@
 ghost use Rattle.std.specs.Prelude.{◌≡◌, ◌*◌, ◌<◌, ◌≤◌, length, [], false, IsTrue, IfOk, OnOk, OnErr, vec_capacity};
 ghost use Rattle.faaslet_meaning.specs.LoadStore.{bytes_of};
 ghost use Rattle.faaslet_meaning.specs.Memory.{IsMemory, IsPrivate, page_size, pages_of, lies_in, put, may_grow, grown, may_map, with_map, mappings, mapping_limit, grant_limit, unmapped};
-ghost use Rattle.region_map.specs.Pages.{ArePages};
-ghost use Rattle.region_map.specs.Segments.{backing_of, one_segment, restored, set_back};
+ghost use Rattle.private_pages.specs.Pages.{ArePages};
+ghost use Rattle.region_map.specs.Segments.{backing_of, one_segment, IsRestoredTo, IsSetBack};
 
-use crate::image::Image;
-use crate::plain_pages::PlainPages;
 use crate::segments::{self, Mapping, Spot};
 use faaslet_meaning::{Full, Home, Linear, MapFull, Outside, Piece};
+use private_pages::{Image, PrivatePages};
 use std::alloc::{AllocError, Global};
 use std::marker::Model;
 
@@ -30,7 +29,7 @@ pub struct SegmentedMemory<'i> {
     first: u32,
     mappings: Vec<Mapping>,
     pages: u32,
-    bytes: PlainPages<'i>,
+    bytes: PrivatePages<'i>,
 }
 
 impl<'i> Model for SegmentedMemory<'i> {
@@ -47,7 +46,7 @@ impl<'i> Model for SegmentedMemory<'i> {
 
 impl<'i> SegmentedMemory<'i> {
     /// These pages as one segment, and room for every replica that may be mapped.
-    pub fn new(alloc: Global, pages: PlainPages<'i>) -> Result<SegmentedMemory<'i>, AllocError>
+    pub fn new(alloc: Global, pages: PrivatePages<'i>) -> Result<SegmentedMemory<'i>, AllocError>
         ensures { IfOk result (λ m. m ≡ one_segment pages.entry) }
     {
         let mappings = Vec::with_capacity(alloc, MAPPING_LIMIT)?;
@@ -67,11 +66,25 @@ impl<'i> SegmentedMemory<'i> {
         self.bytes.room()
     }
 
+    /// How many private pages were written since the last `restore` or `reset`.
+    pub fn dirty(&self) -> u32
+        ensures { result ≡ self.now.dirty }
+    {
+        self.bytes.dirty()
+    }
+
+    /// The work of the pool that the private pages are on.
+    pub fn work(&self) -> u64
+        ensures { result ≡ self.now.work }
+    {
+        self.bytes.work()
+    }
+
     /// Takes the content of an image as one private segment, and a quota. Every mapping ends.
     pub fn restore(&mut self, image: &'i Image, quota: u32)
         requires within { image.now.pages ≤ quota }
         requires roomy { quota ≤ self.old.room }
-        ensures restored { self.new ≡ restored self.old image.now quota }
+        ensures restored { IsRestoredTo self.old image.now quota self.new }
         ensures sound { IsMemory self.new.memory }
     {
         self.bytes.restore(image, quota);
@@ -82,7 +95,7 @@ impl<'i> SegmentedMemory<'i> {
     /// Takes the content of the image that was restored last as one private segment, which without
     /// one has no page. Every mapping ends.
     pub fn reset(&mut self)
-        ensures reset { self.new ≡ set_back self.old }
+        ensures reset { IsSetBack self.old self.new }
         ensures sound { IsMemory self.new.memory }
     {
         self.bytes.reset();
@@ -92,9 +105,9 @@ impl<'i> SegmentedMemory<'i> {
 }
 
 /// Ends every mapping, and answers how many private pages there are.
-fn alone(mappings: &mut Vec<Mapping>, bytes: &PlainPages<'_>) -> u32
+fn alone(mappings: &mut Vec<Mapping>, bytes: &PrivatePages<'_>) -> u32
     ensures none { mappings.new.items ≡ [] }
-    ensures count { result ≡ bytes.now.pages }
+    ensures count { result ≡ bytes.now.content.pages }
     ensures sound { ArePages bytes.now }
     ensures capacity { vec_capacity mappings.old ≤ vec_capacity mappings.new }
 {

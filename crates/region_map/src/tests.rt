@@ -11,47 +11,19 @@ const PAGE: u64 = 65_536;
 fn image_of(alloc: Global, byte: u8) -> Result<Image, AllocError>
     ensures { IfOk result (λ image. image.pages ≡ 1) }
 {
-    let bytes = vec![in alloc; byte; 65_536]?;
-    Ok(Image::new(1, bytes))
+    let mut image = Image::new(alloc);
+    image.push(&[byte; 65_536])?;
+    Ok(image)
 }
 
 /// One private page, one of a replica, and a private one.
 fn three_pages(alloc: Global) -> Result<SegmentedMemory<'static>, AllocError> {
-    let mut pages = PlainPages::new(alloc, 2)?;
+    let mut pages = PrivatePages::with_room(alloc, 2)?;
     let _ = pages.grow(1);
     let mut memory = SegmentedMemory::new(alloc, pages)?;
     let _ = memory.map(3, 1);
     let _ = memory.grow(1, 3);
     Ok(memory)
-}
-
-#[test]
-fn pages_are_written(rt: HostRuntime) -> Result<(), Fail> {
-    let mut pages = PlainPages::new(rt.alloc(), 2)?;
-    assert_eq!(rt; pages.grow(3), Err(Full));
-    assert_eq!(rt; pages.grow(2), Ok(0));
-    assert_eq!(rt; pages.pages(), 2);
-    pages.write(PAGE - 1, &[7, 8]);
-    let mut bytes = [0; 4];
-    pages.read(PAGE - 2, &mut bytes);
-    assert_eq!(rt; bytes, [0, 7, 8, 0]);
-    Ok(())
-}
-
-#[test]
-fn pages_are_set_back(rt: HostRuntime) -> Result<(), Fail> {
-    let image = image_of(rt.alloc(), 6)?;
-    assert_eq!(rt; (image.pages(), image.bytes().len()), (1, 65_536));
-    let mut pages = PlainPages::new(rt.alloc(), 3)?;
-    pages.restore(&image, 2);
-    assert_eq!(rt; (pages.quota(), pages.room()), (2, 3));
-    assert_eq!(rt; pages.grow(1), Ok(1));
-    pages.reset();
-    assert_eq!(rt; pages.pages(), 1);
-    let mut bytes = [0; 2];
-    pages.read(0, &mut bytes);
-    assert_eq!(rt; bytes, [6, 6]);
-    Ok(())
 }
 
 #[test]
@@ -123,7 +95,7 @@ fn replicas_come_and_go(rt: HostRuntime) -> Result<(), Fail> {
 #[test]
 fn memory_is_set_back(rt: HostRuntime) -> Result<(), Fail> {
     let image = image_of(rt.alloc(), 6)?;
-    let pages = PlainPages::new(rt.alloc(), 3)?;
+    let pages = PrivatePages::with_room(rt.alloc(), 3)?;
     let mut memory = SegmentedMemory::new(rt.alloc(), pages)?;
     assert_eq!(rt; memory.map(0, 65_537), Err(MapFull));
     assert_eq!(rt; memory.map(0, 1), Ok(0));

@@ -5,8 +5,8 @@ use Rattle.proto_faaslet.specs.Snapshots.{Snapshot, snapshot_in, image_memory, I
 use Rattle.proto_faaslet.proofs.Restored.{restored_so, ready_so, backing_so}
 use Rattle.proto_faaslet.proofs.proto.Proto.begin.Goals as goal
 
-pub returns : goal.returns
-returns c =
+pub returns-clause-restored : goal.returns-clause-restored
+returns-clause-restored c =
     let p = snapshot_in c.self.inside in
     let machine = c.args.machine.now in
     let shape : Segmented → Memory = λ m. m.memory in

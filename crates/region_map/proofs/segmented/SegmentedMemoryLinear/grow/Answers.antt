@@ -1,6 +1,6 @@
 use Rattle.std.proofs.Common.{◌+◌, ◌≤◌, ap, arith}
 use Rattle.faaslet_meaning.specs.Memory.{page_limit}
-use Rattle.region_map.specs.Pages.{Pages}
+use Rattle.private_pages.specs.Pages.{Pages}
 use Rattle.region_map.proofs.Spread.{is_memory}
 use Rattle.region_map.proofs.Changes.{sound, grown_are, grown_now}
 use Rattle.region_map.proofs.segmented.SegmentedMemoryLinear.grow.Goals as goal
@@ -15,7 +15,7 @@ pub invariant_of-self-2 : goal.invariant_of-self-2
 invariant_of-self-2 c =
     let l = c.lengthen-self-inside.ensures in
     let few : c.self.inside.pages + c.args.n ≤ page_limit = omega (arith, c.min-most.ensures) in
-    let p = ap (λ (p : Pages). p.pages) c.in-Ok.ensures.grown.1 in
+    let p = ap (λ (p : Pages). p.content.pages) c.in-Ok.ensures.grown.1 in
     record {
       are = grown_are c.self.inside.first c.lengthen-self-inside.result c.self.inside.mappings.items c.lengthen-self-inside.new.mappings.items c.self.inside.pages c.args.n c.self.inside.bytes c.grow.new.self c.self.invariant.are l.segments l.each l.count few p c.in-Ok.ensures.sound;
       capacity = omega (arith, c.self.invariant.capacity, l.capacity);

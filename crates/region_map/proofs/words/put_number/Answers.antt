@@ -1,6 +1,0 @@
-use Rattle.std.proofs.Common.{length, take, ap, ◌∙◌}
-use Rattle.region_map.proofs.Numbers.{front, eight_of}
-use Rattle.region_map.proofs.words.put_number.Goals as goal
-
-pub returns : goal.returns
-returns c = c.copy_from_slice.ensures.after ∙ ap (take (length c.args.places.now)) (c.to_le_bytes-word.ensures ∙ eight_of c.args.value) ∙ front (length c.args.places.now) 8 c.args.value c.requires
