@@ -6,7 +6,7 @@ use Rattle.faaslet_meaning.specs.declared.outcome.Broken.{Broken}
 use Rattle.faaslet_meaning.specs.declared.outcome.Outcome.{Outcome}
 use Rattle.faaslet_meaning.specs.declared.outcome.Outcome.TheVariants as outcome
 use Rattle.faaslet_meaning.specs.Channels.{told_nothing}
-use Rattle.faaslet_meaning.specs.Configuration.{Program, Func, hosted, defined, Configuration, Begun, Next, goes, ends, touches, calls, stuck}
+use Rattle.faaslet_meaning.specs.Configuration.{Func, hosted, defined, Configuration, Begun, Next, goes, ends, touches, calls, stuck}
 use Rattle.faaslet_meaning.specs.HostCalls.{HostCall}
 use Rattle.faaslet_meaning.specs.CallState.{runs, over, fresh_state}
 use Rattle.faaslet_meaning.specs.Call.{progress}
@@ -15,21 +15,9 @@ use Rattle.faaslet_meaning.specs.Program.{first_memory, export_of, globals_from}
 use Rattle.faaslet_meaning.specs.Runs.{Run, ended, went_on, invocation, Runs, runs_by}
 use Rattle.faaslet_meaning.specs.Step.{step}
 use Rattle.faaslet_meaning.specs.Words.{call_function}
-use Rattle.faaslet_meaning.proofs.Quiet.{AllPrivate, Private, IsEnd, Quiet, step_quiet}
+use Rattle.faaslet_meaning.proofs.Quiet.{AllPrivate, Private, Quiet, steps_quiet}
+use Rattle.faaslet_meaning.proofs.StepWalk.{IsEnd}
 use Rattle.faasm_top.proofs.Alone.{Alone, all_defined, steps_alone}
-
--- ---- the machine stays in private memory
-
-quiet_on : (p : Program) (x : Next) (go : Configuration → Next) → Quiet x → ((d : Configuration) → Private d → Quiet (go d)) → Quiet (then_go x go)
-quiet_on p (goes d) go h k = k d h
-quiet_on p (ends d o) go h k = h
-quiet_on p (touches d b) go h k = h
-quiet_on p (calls d b) go h k = h
-quiet_on p stuck go h k = h
-
-pub steps_quiet : (p : Program) (n : ℕ) (c : Configuration) → Private c → Quiet (steps p n c)
-steps_quiet p zero c h = h
-steps_quiet p (suc n) c h = quiet_on p (step p c) (steps p n) (step_quiet p c h) (steps_quiet p n)
 
 -- ---- a fresh state is private
 

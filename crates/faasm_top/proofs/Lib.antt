@@ -1,11 +1,9 @@
 pub mod Alone
-pub mod Borders
 pub mod Calls
 pub mod Decimals
 pub mod Dues
 pub mod Events
 pub mod Inputs
-pub mod Lengths
 pub mod OneLine
 pub mod Snapshots
 pub mod Unfits

@@ -17,7 +17,7 @@ use Rattle.proto_faaslet.specs.declared.fault.BuildFault.{BuildFault}
 use Rattle.proto_faaslet.specs.declared.fault.BuildFault.TheVariants as faults
 use Rattle.wasm_interp.specs.StandsFor.{Agrees, StandsFor}
 use Rattle.wasm_interp.specs.declared.machine.Machine.{Machine}
-use Rattle.wasm_interp.proofs.Trying.{agrees_none}
+use Rattle.wasm_interp.proofs.Granting.{agrees_none}
 use Rattle.faasm_top.specs.FreshCall.{IsFreshCall}
 use Rattle.faasm_top.proofs.Calls.{broken_so}
 

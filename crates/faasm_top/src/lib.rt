@@ -12,16 +12,3 @@ mod words;
 pub use commands::{answer, one_line};
 pub use report::Status;
 pub use words::{Command, WordsFault, read_words};
-
-#[cfg(test)]
-mod call_tests;
-#[cfg(test)]
-mod check_tests;
-#[cfg(test)]
-mod host_tests;
-#[cfg(test)]
-mod piece_tests;
-#[cfg(test)]
-mod tests;
-#[cfg(test)]
-mod word_tests;

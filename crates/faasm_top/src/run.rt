@@ -11,8 +11,8 @@ ghost use Rattle.proto_faaslet.specs.Entries.{HasRoom};
 
 use crate::finish::{Ran, finish};
 use faaslet_meaning::Outcome;
-use proto_faaslet::{BuildFault, Proto, room_of};
-use region_map::{PlainPages, SegmentedMemory};
+use proto_faaslet::{BuildFault, Proto, empty_memory, machine_over};
+use region_map::SegmentedMemory;
 use std::alloc::{AllocError, Global};
 use wasm_interp::Machine;
 use wasm_validate::ValidModule;
@@ -21,7 +21,7 @@ use wasm_validate::ValidModule;
 const QUOTA: u32 = 64;
 
 /// A machine with room for a call of the module, in which no mapped page may be written.
-pub(crate) fn machine_for<'s>(
+fn machine_for<'s>(
     alloc: Global,
     module: &ValidModule,
 ) -> Result<Machine<'s, SegmentedMemory<'s>>, AllocError>
@@ -31,11 +31,7 @@ pub(crate) fn machine_for<'s>(
     ensures pages { IfOk result (λ m. QUOTA ≤ m.memory.room) }
     ensures writable { IfOk result (λ m. m.writable ≡ 0) }
 {
-    let memory = SegmentedMemory::new(alloc, PlainPages::new(alloc, QUOTA)?)?;
-    match Machine::new(alloc, memory, room_of(module)) {
-        Ok(machine) => Ok(machine),
-        Err(_) => Err(AllocError),
-    }
+    machine_over(alloc, module, empty_memory(alloc, QUOTA)?)
 }
 
 /// A call of a module without imports, from its instantiation to its end.

@@ -1,5 +1,5 @@
 -- Functions with a body, where all imports are host calls.
-use Rattle.std.proofs.Common.{◌≡◌, ℕ, zero, suc, ◌+◌, ◌-◌, ◌<◌, ◌≤◌, All, List, [], ◌∷◌, ◌++◌, Option, Some, None, length, refl, sym, ap, ◌∙◌, subst, arith}
+use Rattle.std.proofs.Common.{◌≡◌, ℕ, suc, ◌+◌, ◌-◌, ◌<◌, ◌≤◌, All, List, [], ◌∷◌, Option, Some, None, length, refl, sym, ap, ◌∙◌, subst, arith}
 use Rattle.std.specs.Prelude.{filter_map, option_map, slice_get, IfNone, IfSome}
 use Rattle.std.specs.List.{cons_option}
 use Rattle.std.proofs.lemmas.List.Elements.{All-head, All-tail}
@@ -11,6 +11,7 @@ use Rattle.faaslet_meaning.specs.declared.module.ImportKind.TheVariants as impor
 use Rattle.faaslet_meaning.specs.declared.module.Module.{Module}
 use Rattle.faaslet_meaning.specs.IndexSpaces.{imported_function, imported_functions, function_types, functions, type_at}
 use Rattle.faaslet_meaning.specs.Runnable.{IsHostCall, HostImports}
+use Rattle.faaslet_meaning.proofs.Appended.{get_above}
 use Rattle.function_rules.specs.Exports.{IsOwn}
 
 functions_of : (m : Module) (is : List Import) → All (IsHostCall m) is → length (filter_map (λ (i : Import). imported_function i.kind) is) ≡ length is
@@ -27,13 +28,10 @@ functions_of m (i ∷ is) all = by i.kind (All-head (IsHostCall m) i is all).kin
 pub all_functions : (m : Module) → HostImports m → length (imported_functions m) ≡ length m.imports
 all_functions m hosts = functions_of m m.imports hosts
 
-behind : {X : Type 0} (xs ys : List X) (i k : ℕ) → i ≡ length xs + k → slice_get (xs ++ ys) i ≡ slice_get ys k
-behind [] ys i k e = ap (slice_get ys) (omega (arith, e))
-behind (x ∷ xs) ys zero k e = absurd (omega (arith, e))
-behind (x ∷ xs) ys (suc i) k e = behind xs ys i k (omega (arith, e))
-
 own_found : (m : Module) (i n : ℕ) → HostImports m → n ≡ length m.imports → n ≤ i → slice_get (function_types m) i ≡ option_map (type_at m) (slice_get m.functions (i - n))
-own_found m i n hosts e l = slice_get-map (type_at m) (functions m) i ∙ ap (option_map (type_at m)) (behind (imported_functions m) m.functions i (i - n) (omega (arith, all_functions m hosts, e, l)))
+own_found m i n hosts e l =
+    let above : i ≡ length (imported_functions m) + (i - n) = omega (arith, all_functions m hosts, e, l) in
+    slice_get-map (type_at m) (functions m) i ∙ ap (option_map (type_at m)) (ap (slice_get (functions m)) above ∙ get_above (imported_functions m) m.functions (i - n))
 
 module _ (m : Module) (i n : ℕ) (hosts : HostImports m) (e : n ≡ length m.imports) (l : n ≤ i) where
   pub is_own : (o : Option ℕ) → o ≡ slice_get m.functions (i - n) → IfSome o (λ t. IsOwn m i (type_at m t))

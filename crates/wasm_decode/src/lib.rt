@@ -13,8 +13,3 @@ mod vectors;
 
 pub use decoder::decode;
 pub use fault::{DecodeFault, Which};
-
-#[cfg(test)]
-mod limit_tests;
-#[cfg(test)]
-mod tests;

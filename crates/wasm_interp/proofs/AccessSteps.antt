@@ -22,7 +22,7 @@ use Rattle.wasm_interp.specs.Stands.{Stands, Follows}
 use Rattle.wasm_interp.specs.StandsFor.{StageStands}
 use Rattle.wasm_interp.proofs.Values.{under_own, values_stand}
 use Rattle.wasm_interp.proofs.PieceLists.{write_all, inside_is}
-use Rattle.wasm_interp.proofs.WordBytes.{bytes_many}
+use Rattle.faaslet_meaning.proofs.WordBytes.{bytes_many}
 
 -- ---- where the machine is
 

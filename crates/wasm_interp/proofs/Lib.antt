@@ -1,5 +1,6 @@
 pub mod Lists
 pub mod Values
+pub mod ValueCells
 pub mod LocalSteps
 pub mod Numerics
 pub mod Leaving
@@ -21,7 +22,6 @@ pub mod Fuel
 pub mod Runs
 pub mod Beginning
 pub mod Standing
-pub mod WordBytes
 pub mod PieceLists
 pub mod PieceSteps
 pub mod AccessSteps
@@ -29,4 +29,4 @@ pub mod ResumeSteps
 pub mod Shows
 pub mod Replaced
 pub mod Agreeing
-pub mod Trying
+pub mod Granting

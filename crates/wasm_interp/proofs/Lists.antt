@@ -4,7 +4,7 @@ use Rattle.std.specs.Prelude.{reverse, slice_get}
 use Rattle.std.proofs.lemmas.List.{reverse-append, length-reverse, length-drop, length-take-le, take-append-drop}
 use Rattle.std.proofs.Math.Seq.{drop-append_seam, take-append_seam}
 use Rattle.faaslet_meaning.specs.LoadStore.{bytes_of}
-use Rattle.wasm_interp.proofs.WordBytes.{bytes_many}
+use Rattle.faaslet_meaning.proofs.WordBytes.{bytes_many}
 
 -- what is cut off above is dropped from the reversed list
 pub reverse_take : {A : Type 0} (xs : List A) (h n : ℕ) → n ≡ length xs - h → h ≤ length xs → reverse (take h xs) ≡ drop n (reverse xs)

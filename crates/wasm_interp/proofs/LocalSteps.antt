@@ -1,5 +1,5 @@
 -- Locals lie on the stack, above the values of the callers.
-use Rattle.std.proofs.Common.{◌≡◌, ℕ, zero, suc, ◌+◌, ◌-◌, ◌<◌, List, [], ◌∷◌, ◌++◌, length, refl, sym, ap, ◌∙◌, subst, arith, length-append, append_assoc, None, Some, Option, ⊎_elim, true, false}
+use Rattle.std.proofs.Common.{◌≡◌, ℕ, ◌+◌, ◌-◌, ◌<◌, List, [], ◌∷◌, ◌++◌, length, refl, sym, ap, ◌∙◌, subst, arith, length-append, append_assoc, None, Some, Option, ⊎_elim, true, false}
 use Rattle.std.specs.Prelude.{◌≢◌, slice_get, slice_set, reverse, nat_lt}
 use Rattle.std.proofs.lemmas.List.{reverse-append, reverse-reverse, length-reverse, length-set, set-append_right, set-append_left}
 use Rattle.std.proofs.lemmas.Option.{slice_get_past}
@@ -12,22 +12,12 @@ use Rattle.faaslet_meaning.specs.Limits.{push}
 use Rattle.faaslet_meaning.specs.Step.{push_some, set_local, plain_step}
 use Rattle.wasm_interp.specs.declared.thread.Thread.{Thread}
 use Rattle.wasm_interp.specs.Stands.{below, all_values, FrameStands, FramesStand, Stands, Follows}
+use Rattle.faaslet_meaning.proofs.Appended.{get_above, get_within}
 use Rattle.wasm_interp.proofs.Values.{Taken, taken}
 
 pub below_is : (ls : List Label) (vs : List ℕ) → below ls vs ≡ below ls [] ++ vs
 below_is [] vs = refl
 below_is (l ∷ ls) vs = ap (λ x. l.under ++ x) (below_is ls vs) ∙ sym (append_assoc l.under (below ls []) vs)
-
-get_above : (a b : List ℕ) (k : ℕ) → slice_get (a ++ b) (length a + k) ≡ slice_get b k
-get_above [] b k = let e : 0 + k ≡ k = omega arith in ap (slice_get b) e
-get_above (x ∷ a) b k =
-    let e : length (x ∷ a) + k ≡ suc (length a + k) = omega arith in
-    ap (slice_get (x ∷ (a ++ b))) e ∙ get_above a b k
-
-get_within : (a b : List ℕ) (k : ℕ) → k < length a → slice_get (a ++ b) k ≡ slice_get a k
-get_within [] b k lt = absurd (omega arith)
-get_within (x ∷ a) b zero lt = refl
-get_within (x ∷ a) b (suc k) lt = get_within a b k (omega arith)
 
 -- a stack from its bottom: what lies under the locals, the locals, and the others
 turned : (own locals low : List ℕ) → reverse (own ++ (reverse locals ++ low)) ≡ reverse low ++ (locals ++ reverse own)

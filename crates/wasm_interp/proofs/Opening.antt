@@ -1,26 +1,20 @@
 -- What stands at the frame's place, and blocks that are opened and left.
 use Rattle.std.proofs.Common.{◌≡◌, ℕ, zero, suc, ◌+◌, ◌<◌, List, [], ◌∷◌, length, drop, refl, sym, ap, ◌∙◌, arith, None, Some, Option, true, false}
-use Rattle.std.specs.Prelude.{slice_get}
 use Rattle.faaslet_meaning.specs.declared.instr.ValType.{ValType}
 use Rattle.faaslet_meaning.specs.declared.instr.Instr.{Instr}
-use Rattle.faaslet_meaning.specs.declared.instr.Instr.TheVariants.{Block, Loop, If, Else, End, Unreachable, Nop, Br, BrIf, BrTable, Return, Call, CallIndirect, Drop, Select, LocalGet, LocalSet, LocalTee, GlobalGet, GlobalSet, Load, Store, MemorySize, MemoryGrow, I32Const, I64Const, F32Const, F64Const, Num}
+use Rattle.faaslet_meaning.specs.declared.instr.Instr.TheVariants.{Block, Loop, If, End}
 use Rattle.faaslet_meaning.specs.Tree.{Tree, stop, plain, block, loop, if_then, if_else, IsPlain, arity_of}
 use Rattle.faaslet_meaning.specs.Parse.{Part, part, parts, before, before_plain, before_block, before_loop, before_if}
 use Rattle.faaslet_meaning.specs.Memory.{Memory}
 use Rattle.faaslet_meaning.specs.Configuration.{Program, Configuration}
 use Rattle.faaslet_meaning.specs.Step.{begin, with_rest, if_step}
+use Rattle.faaslet_meaning.proofs.Written.{plain_before}
 use Rattle.wasm_validate.specs.declared.jumps.Jump.{Jump}
 use Rattle.wasm_interp.specs.declared.thread.Thread.{Thread}
 use Rattle.wasm_validate.specs.Jumps.{side_of}
+use Rattle.wasm_validate.proofs.JumpTables.{drop_one}
 use Rattle.wasm_interp.specs.Places.{InstrAt, JumpAt, Opens, Closes}
 use Rattle.wasm_interp.specs.Stands.{Stands, SideIs}
-
-pub drop_at : {A : Type 0} (xs : List A) (k : ℕ) (x : A) → slice_get xs k ≡ Some x → drop k xs ≡ x ∷ drop (k + 1) xs
-drop_at [] k x e = cc
-drop_at (y ∷ xs) zero x e = let same : y ≡ x = cc in ap (λ z. z ∷ xs) same
-drop_at (y ∷ xs) (suc k) x e =
-    let n : suc k + 1 ≡ suc (k + 1) = omega arith in
-    drop_at xs k x e ∙ ap (λ j. x ∷ drop j (y ∷ xs)) (sym n)
 
 -- the thread at another place of the same code
 abbrev pub moved : Thread → ℕ → Thread
@@ -38,44 +32,13 @@ moved_stands memory t c pc e s h =
 
 -- what the parts from the frame's place are
 pub next_is : (memory : Memory) (t : Thread) (c : Configuration) (i : Instr) (s : Stands memory t c) → InstrAt t.here i → before i (parts (drop (t.here.pc + 1) t.here.code.now)) ≡ part c.frame.rest s.frames.other ∷ s.frames.outer
-next_is memory t c i s at = ap parts (sym (drop_at t.here.code.now t.here.pc i at)) ∙ s.frames.next
+next_is memory t c i s at = ap parts (sym (drop_one t.here.code.now t.here.pc i at)) ∙ s.frames.next
 
 -- an instruction without blocks is passed
 pub record Passed (memory : Memory) (t : Thread) (c : Configuration) (i : Instr) : Type 0 where
   pub rest : Tree
   pub is : c.frame.rest ≡ plain i rest
   pub stands : Stands memory (moved t (t.here.pc + 1)) (with_rest c rest)
-
-pub plain_before : (i : Instr) → IsPlain i → (ps : List Part) → before i ps ≡ before_plain i ps
-plain_before (Block t) h ps = absurd h
-plain_before (Loop t) h ps = absurd h
-plain_before (If t) h ps = absurd h
-plain_before Else h ps = absurd h
-plain_before End h ps = absurd h
-plain_before Unreachable h ps = refl
-plain_before Nop h ps = refl
-plain_before (Br a) h ps = refl
-plain_before (BrIf a) h ps = refl
-plain_before (BrTable a b) h ps = refl
-plain_before Return h ps = refl
-plain_before (Call a) h ps = refl
-plain_before (CallIndirect a) h ps = refl
-plain_before Drop h ps = refl
-plain_before Select h ps = refl
-plain_before (LocalGet a) h ps = refl
-plain_before (LocalSet a) h ps = refl
-plain_before (LocalTee a) h ps = refl
-plain_before (GlobalGet a) h ps = refl
-plain_before (GlobalSet a) h ps = refl
-plain_before (Load a b c) h ps = refl
-plain_before (Store a b c) h ps = refl
-plain_before MemorySize h ps = refl
-plain_before MemoryGrow h ps = refl
-plain_before (I32Const a) h ps = refl
-plain_before (I64Const a) h ps = refl
-plain_before (F32Const a) h ps = refl
-plain_before (F64Const a) h ps = refl
-plain_before (Num a) h ps = refl
 
 record PlainParts (i : Instr) (ps : List Part) (rest : Tree) (other : Option Tree) (outer : List Part) : Type 0 where
   after : Tree

@@ -1,5 +1,5 @@
 -- The functions of a module at their places.
-use Rattle.std.proofs.Common.{◌≡◌, ℕ, zero, suc, ◌+◌, ◌-◌, ◌^◌, ◌<◌, ◌≤◌, List, [], ◌∷◌, ◌++◌, length, refl, sym, ap, ◌∙◌, subst, arith, length-append, None, Some, ⊎_elim}
+use Rattle.std.proofs.Common.{◌≡◌, ℕ, zero, suc, ◌+◌, ◌-◌, ◌^◌, ◌<◌, ◌≤◌, List, [], ◌∷◌, length, refl, sym, ap, ◌∙◌, subst, arith, length-append, None, Some, ⊎_elim}
 use Rattle.std.specs.Prelude.{All, slice_get, filter_map, option_map}
 use Rattle.std.proofs.lemmas.Bool.{cases_lt}
 use Rattle.std.proofs.lemmas.Option.{same_Some, slice_get-map, slice_get_within, get_or_from_slice_get}
@@ -15,6 +15,7 @@ use Rattle.faaslet_meaning.specs.Program.{functions_of, host_functions, bodies_f
 use Rattle.faaslet_meaning.specs.Runnable.{HostImports, IsHostCall}
 use Rattle.faaslet_meaning.specs.Valid.{Valid}
 use Rattle.wasm_validate.specs.Jumps.{JumpsFit}
+use Rattle.faaslet_meaning.proofs.Appended.{get_above, get_within}
 use Rattle.wasm_interp.specs.declared.functions.Own.{Own}
 use Rattle.wasm_interp.specs.declared.functions.Callee.TheVariants as callee
 use Rattle.wasm_interp.specs.Callees.{CalleeIs}
@@ -27,17 +28,6 @@ EachHost m (i ∷ is) = IsHostCall m i × EachHost m is
 each_host : (m : Module) (is : List Import) → All (IsHostCall m) is → EachHost m is
 each_host m [] h = tt
 each_host m (i ∷ is) h = (h 0 i (omega arith), each_host m is (λ k d l. h (suc k) d (omega (arith, l))))
-
-pub get_above : {A : Type 0} (a b : List A) (k : ℕ) → slice_get (a ++ b) (length a + k) ≡ slice_get b k
-get_above [] b k = let e : 0 + k ≡ k = omega arith in ap (slice_get b) e
-get_above (x ∷ a) b k =
-    let e : length (x ∷ a) + k ≡ suc (length a + k) = omega arith in
-    ap (slice_get (x ∷ (a ++ b))) e ∙ get_above a b k
-
-pub get_within : {A : Type 0} (a b : List A) (k : ℕ) → k < length a → slice_get (a ++ b) k ≡ slice_get a k
-get_within [] b k lt = absurd (omega arith)
-get_within (x ∷ a) b zero lt = refl
-get_within (x ∷ a) b (suc k) lt = get_within a b k (omega arith)
 
 all_get : {A : Type 0} (P : A → Type 0) (xs : List A) (k : ℕ) (x : A) → All P xs → slice_get xs k ≡ Some x → P x
 all_get P xs k x h e = subst P (get_or_from_slice_get xs k x x e) (h k x (slice_get_within xs k x e))
@@ -186,9 +176,6 @@ module _ (m : Module) (v : Valid m) (imports : HostImports m) (k : ℕ) where
   own_within g past e =
       let there = function_there g e in
       (omega (arith, there), omega (arith, there, v.rules.as_many_bodies))
-
-  pub few_locals : (place : ℕ) (b : Body) → slice_get m.bodies place ≡ Some b → local_count b < 2 ^ 32
-  few_locals place b at = all_get (λ (b : Body). local_count b < 2 ^ 32) m.bodies place b v.rules.few_locals at
 
   pub finds_host : (i : Import) (g : Func) (n params : ℕ) (t : FuncType) → slice_get m.imports k ≡ Some i → slice_get (functions_of m) k ≡ Some g → n ≡ host_number i.name → type_of g ≡ t → params ≡ length t.params → CalleeIs g (callee.Host n params)
   finds_host i g n params t at e number type count =

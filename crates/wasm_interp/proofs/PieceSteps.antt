@@ -17,7 +17,7 @@ use Rattle.wasm_interp.specs.declared.machine.PieceAsk.{PieceAsk}
 use Rattle.wasm_interp.specs.StandsFor.{Agrees}
 use Rattle.wasm_interp.specs.Parts.{Within, ReadOn, AtPiece, left_to_write}
 use Rattle.wasm_interp.proofs.PieceLists.{shared, cut_none, place_of, write_mapped, first_of, cut_next, cut_first, shared_private, shared_mapped, write_private, inside_is, is_inside}
-use Rattle.wasm_interp.proofs.WordBytes.{number_append, bytes_behind, front}
+use Rattle.faaslet_meaning.proofs.WordBytes.{number_append, bytes_behind, front}
 
 is_private_home : (f : Piece) (home : linear_home.Home) → IsHome f home → home ≡ code.Private → f.home ≡ private
 is_private_home f home h e = subst (IsHome f) e h

@@ -25,7 +25,7 @@ use Rattle.wasm_interp.proofs.Fuel.{resumed_within}
 use Rattle.wasm_interp.proofs.AccessSteps.{replaced, changed}
 use Rattle.wasm_interp.proofs.PieceLists.{shared, shared_mapped, cut_none, first_of}
 use Rattle.wasm_interp.proofs.PieceSteps.{others_are, less_to_write}
-use Rattle.wasm_interp.proofs.WordBytes.{number_append, bytes_many}
+use Rattle.faaslet_meaning.proofs.WordBytes.{number_append, bytes_many}
 
 -- ---- the copy of a load
 

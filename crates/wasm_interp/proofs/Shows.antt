@@ -13,7 +13,7 @@ use Rattle.wasm_interp.specs.Goes.{Shown}
 use Rattle.wasm_interp.specs.Parts.{WriteStands}
 use Rattle.wasm_interp.specs.StandsFor.{access_of, PieceIs, PendingIs, PendingStands, StageStands, to_write}
 use Rattle.wasm_interp.proofs.PieceLists.{First, first_of}
-use Rattle.wasm_interp.proofs.WordBytes.{front, bytes_many}
+use Rattle.faaslet_meaning.proofs.WordBytes.{front, bytes_many}
 
 -- a store that stands at a piece
 record Stores (memory : Memory) (q : Pending) (b : Begun) : Type 0 where

@@ -7,6 +7,6 @@ pub mod Goes
 pub mod Places
 pub mod Callees
 pub mod HostStops
+pub mod ValueCells
 pub mod Lending
-pub mod Trials
 pub mod Grants

@@ -13,11 +13,11 @@ ghost use Rattle.wasm_interp.specs.StandsFor.{StageStands};
 ghost use Rattle.wasm_interp.specs.Rooms.{SameRooms};
 
 use crate::cells::Cells;
-use crate::frames::put_zeros;
 use crate::functions::Own;
 use crate::machine::{Room, Stage};
 use crate::stack::Stack;
 use crate::thread::{Frame, Thread};
+use crate::value_stack::Values;
 use faaslet_meaning::{Outcome, Trap};
 use std::alloc::{AllocError, Global};
 
@@ -27,7 +27,7 @@ impl<'m> Thread<'m> {
         ensures { IfOk result (λ t. (t.globals.room ≡ room.globals) × (t.table.room ≡ room.table)) }
     {
         Ok(Thread {
-            values: Stack::new(alloc)?,
+            values: Values::new(alloc)?,
             labels: Stack::new(alloc)?,
             frames: Stack::new(alloc)?,
             here: Frame {
@@ -57,7 +57,7 @@ impl<'m> Thread<'m> {
         self.values.cut(self.values.len());
         self.labels.cut(self.labels.len());
         self.frames.cut(self.frames.len());
-        put_zeros(&mut self.values, own.locals);
+        self.values.put_zeros(own.locals);
         self.here = Frame {
             code: own.code,
             jumps: own.jumps,

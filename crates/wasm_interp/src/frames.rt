@@ -18,7 +18,6 @@ ghost use Rattle.wasm_interp.specs.Rooms.{SameRooms};
 use crate::buffer::BUFFER;
 use crate::host_calls::{buffer_length, take_args};
 use crate::machine::HostAsk;
-use crate::stack::Stack;
 use crate::thread::{FRAMES, Frame, LABELS, Thread, VALUES};
 use faaslet_meaning::{Instr, Outcome, Trap};
 use wasm_validate::Jump;
@@ -87,7 +86,7 @@ impl<'m> Thread<'m> {
         }
         let base = self.values.len() - params;
         self.frames.push(self.here);
-        put_zeros(&mut self.values, extra);
+        self.values.put_zeros(extra);
         let height = self.values.len();
         self.here = Frame {
             code,
@@ -137,15 +136,5 @@ impl<'m> Thread<'m> {
             }),
             Some(outcome) => Err(outcome),
         }
-    }
-}
-
-// So many zeros more.
-pub fn put_zeros(values: &mut Stack<u64, 65536>, count: u64)
-    requires { length values.old + count ≤ 65536 }
-    ensures { values.new ≡ replicate count 0 ++ values.old }
-{
-    for _i in 0..count {
-        values.push(0);
     }
 }

@@ -1,6 +1,6 @@
 //! The functions of a module: host calls, and behind them those with a body.
 
-ghost use Rattle.std.specs.Prelude.{◌≡◌, ◌<◌, ◌≤◌, ◌^◌, Some, bytes_eq, length, map, slice_get, sum_by};
+ghost use Rattle.std.specs.Prelude.{◌≡◌, ◌<◌, ◌≤◌, Some, bytes_eq, length, map, slice_get};
 ghost use Rattle.faaslet_meaning.specs.ControlRules.{same_type, type_code};
 ghost use Rattle.faaslet_meaning.specs.Configuration.{Func, type_of};
 ghost use Rattle.faaslet_meaning.specs.IndexSpaces.{type_at};
@@ -10,7 +10,7 @@ ghost use Rattle.faaslet_meaning.specs.Valid.{Valid};
 ghost use Rattle.wasm_interp.specs.Callees.{CalleeIs};
 
 use crate::host_calls::host_number;
-use faaslet_meaning::{FuncType, ImportKind, Instr, LocalGroup, Module, ValType};
+use faaslet_meaning::{FuncType, ImportKind, Instr, Module, ValType};
 use wasm_validate::{Jump, ValidModule};
 
 /// A function with a body: its code and the jumps of its places, how many parameters and other locals it
@@ -29,17 +29,6 @@ pub struct Own<'m> {
 pub enum Callee<'m> {
     Host(usize, usize),
     Own(Own<'m>),
-}
-
-fn locals_in(groups: &[LocalGroup]) -> u64
-    requires { sum_by (λ g. g.count) groups.now < 2 ^ 32 }
-    ensures { result ≡ sum_by (λ g. g.count) groups.now }
-{
-    let mut sum: u64 = 0;
-    for group in groups {
-        sum += u64::from(group.count);
-    }
-    sum
 }
 
 // The number of a function's type.
@@ -94,7 +83,7 @@ pub fn find_function<'m>(code: &'m ValidModule, f: usize) -> Callee<'m>
         code: body.code.as_slice(),
         jumps: code.jumps(place).as_slice(),
         params,
-        locals: locals_in(body.locals.as_slice()),
+        locals: code.local_count(place),
         results: t.results.as_slice().len() as u32,
     })
 }

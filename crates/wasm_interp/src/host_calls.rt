@@ -6,7 +6,7 @@ ghost use Rattle.faaslet_meaning.specs.HostCalls.{HostCall, HostRow, arity, buff
 ghost use Rattle.faaslet_meaning.specs.Integers.{low};
 ghost use Rattle.faaslet_meaning.specs.Program.{host_number};
 
-use crate::stack::Stack;
+use crate::value_stack::Values;
 
 /// In the order of their numbers.
 const HOST_NAMES: [&str; 23] = [
@@ -111,7 +111,7 @@ pub fn buffer_length(call: usize, args: &[u64; 4]) -> Option<u64>
 }
 
 /// Takes so many arguments off the values, each as an i32. They stand in order, the last was topmost.
-pub fn take_args(values: &mut Stack<u64, 65536>, params: usize) -> [u64; 4]
+pub fn take_args(values: &mut Values, params: usize) -> [u64; 4]
     requires few { params ≤ 4 }
     requires there { params ≤ length values.old }
     ensures args { take params result ≡ reverse (map (low w32) (take params values.old)) }

@@ -21,11 +21,9 @@ mod sides;
 mod stack;
 mod surface;
 mod thread;
+mod value_stack;
 mod variables;
 mod words;
 
 pub use laws::{grants_agree, stands_with_aside, stands_with_memory, stands_with_scratch};
 pub use machine::{Event, HostAsk, Machine, PieceAsk, Room};
-
-#[cfg(test)]
-mod tests;

@@ -1,6 +1,6 @@
 //! A stack that contracts see as a list, the topmost item first.
 
-ghost use Rattle.std.specs.Prelude.{◌≡◌, ◌+◌, ◌-◌, ◌<◌, ◌≤◌, [], ◌∷◌, ◌++◌, length, take, drop, reverse, Some, slice_get, slice_set, IfOk};
+ghost use Rattle.std.specs.Prelude.{◌≡◌, ◌<◌, ◌≤◌, [], ◌∷◌, length, drop, Some, slice_get, IfOk};
 
 use std::alloc::{AllocError, Global};
 use std::marker::Model;
@@ -58,16 +58,6 @@ impl<T: Copy, const ROOM: usize> Stack<T, ROOM> {
         }
     }
 
-    /// Another item in place of the topmost.
-    #[inline(always)]
-    pub fn replace(&mut self, x: T)
-        requires { 0 < length self.old }
-        ensures { self.new ≡ x ∷ drop 1 self.old }
-    {
-        let top = self.items.len() - 1;
-        self.items[top] = x;
-    }
-
     /// The item with so many above it.
     #[inline(always)]
     pub fn get(&self, below: usize) -> T
@@ -77,24 +67,6 @@ impl<T: Copy, const ROOM: usize> Stack<T, ROOM> {
         self.items[self.items.len() - 1 - below]
     }
 
-    /// The item with so many below it.
-    #[inline(always)]
-    pub fn at(&self, height: usize) -> T
-        requires { height < length self.now }
-        ensures { slice_get (reverse self.now) height ≡ Some result }
-    {
-        self.items[height]
-    }
-
-    /// Another item in place of the one with so many below it.
-    #[inline(always)]
-    pub fn set_at(&mut self, height: usize, x: T)
-        requires { height < length self.old }
-        ensures { self.new ≡ reverse (slice_set (reverse self.old) height x) }
-    {
-        self.items[height] = x;
-    }
-
     /// Drops so many of the topmost items.
     #[inline(always)]
     pub fn cut(&mut self, count: usize)
@@ -102,22 +74,5 @@ impl<T: Copy, const ROOM: usize> Stack<T, ROOM> {
         ensures { self.new ≡ drop count self.old }
     {
         self.items.truncate(self.items.len() - count);
-    }
-
-    /// Keeps at most one item, and below it only the lowest.
-    #[inline(always)]
-    pub fn unwind(&mut self, keep: u32, height: usize)
-        requires few { keep ≤ 1 }
-        requires within { keep + height ≤ length self.old }
-        ensures { self.new ≡ take keep self.old ++ drop (length self.old - height) self.old }
-    {
-        let count = self.len() - height;
-        if keep == 0 {
-            self.cut(count);
-        } else {
-            let x = self.get(0);
-            self.cut(count - 1);
-            self.replace(x);
-        }
     }
 }

@@ -9,6 +9,7 @@ ghost use Rattle.wasm_interp.specs.Rooms.{SameRooms};
 
 use crate::cells::Cells;
 use crate::stack::Stack;
+use crate::value_stack::Values;
 use faaslet_meaning::{Instr, Outcome, Trap};
 use wasm_validate::Jump;
 
@@ -45,7 +46,7 @@ pub struct Frame<'m> {
 /// The frame that runs is `here`, and its callers are `frames`.
 #[derive(Drop)]
 pub struct Thread<'m> {
-    pub values: Stack<u64, 65536>,
+    pub values: Values,
     pub labels: Stack<Label, 65536>,
     pub frames: Stack<Frame<'m>, 1024>,
     pub here: Frame<'m>,

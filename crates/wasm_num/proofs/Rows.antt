@@ -3,25 +3,18 @@ use Rattle.std.proofs.Common.{◌≡◌, ℕ, ◌<◌, ◌^◌, ◌%◌, ap, ap�
 use Rattle.std.proofs.lemmas.Int.{ints, of_z-to_z}
 use Rattle.std.proofs.lemmas.Bool.Decides.{nat_tests}
 use Rattle.std.specs.Prelude.{bit_and, bit_or, bit_xor, Ok, int_div}
-use Rattle.std.specs.Int.{Width, w8, w16, w32, w128, w64, trailing_zeros, rotate_left, rotate_right, cast_signed, cast_unsigned, int_shr}
+use Rattle.std.specs.Int.{Width, w32, w64, trailing_zeros, rotate_left, rotate_right, cast_signed, cast_unsigned, int_shr}
 use Rattle.std.proofs.Math.Nat.{mod-eq_of_lt}
 use Rattle.std.proofs.lemmas.Nat.{mod_below}
 use mir.Val.{bits}
 use Rattle.faaslet_meaning.specs.Integers.{Binary, unop, unary_row, binop, binary_row, ctz, div_s, and, or, xor, shr_s, rotl, rotr}
+use Rattle.faaslet_meaning.proofs.IntegerResults.{some}
 use Rattle.wasm_num.proofs.Digits.{trailing, both, either, differing}
 use Rattle.wasm_num.proofs.Shifts.{left, right, arithmetic}
 
 -- operands of the width stand for themselves
 binary_at : (w : Width) (x y : ℕ) → x < 2 ^ bits w → y < 2 ^ bits w → (f : Binary) → binary_row f w x y ≡ binop f w x y
 binary_at w x y h k f = ap₂ (binop f w) (mod-eq_of_lt h) (mod-eq_of_lt k)
-
--- a width has digits
-some : (w : Width) → 0 < bits w
-some w8 = omega arith
-some w16 = omega arith
-some w32 = omega arith
-some w64 = omega arith
-some w128 = omega arith
 
 module _ (w : Width) where
   ctz_row : (x : ℕ) → x < 2 ^ bits w → unary_row ctz w x ≡ trailing_zeros w x

@@ -4,22 +4,14 @@ use Rattle.std.specs.Prelude.{bit_or}
 use Rattle.std.specs.Int.{Width, w8, w16, w32, w64, w128, cast_signed, cast_unsigned, int_shr}
 use Rattle.std.specs.Int.Bits.{or_self}
 use mir.Val.{bits, hbits}
-use Rattle.std.proofs.lemmas.Nat.{pow-add, shr_split, mod_low, shr_high, shr_below, shl_below, or_shifted, or_comm, pow_pos, mod_below}
+use Rattle.std.proofs.lemmas.Nat.{pow-add, shr_split, shr_high, shr_below, or_shifted, or_comm, pow_pos, mod_below}
 use Rattle.std.proofs.lemmas.Bool.{cases_lt, lt-ltb, le-ltb}
-use Rattle.std.proofs.Math.Nat.{add-mul, suc-mul, mul_assoc, mod-eq_of_lt, mod_self, mul-mod_left, div-eq_of_lt}
+use Rattle.std.proofs.Math.Nat.{add-mul, suc-mul, mod-eq_of_lt, mod_self, mul-mod_left, div-eq_of_lt}
 use Rattle.std.proofs.Math.Pow.{pow_mono}
 use Rattle.faaslet_meaning.specs.Integers.{sign_copies}
+use Rattle.faaslet_meaning.proofs.IntegerResults.{kept}
 
 -- ---- rotations
-
--- of j + k digits the lowest j stay where k more come below them
-kept : (x j k : ℕ) → (x * 2 ^ k) % 2 ^ (j + k) ≡ (x % 2 ^ j) * 2 ^ k
-kept x j k =
-    let q = x / 2 ^ j in
-    let r = x % 2 ^ j in
-    let small : r * 2 ^ k < 2 ^ (j + k) = shl_below r j k (mod_below x (2 ^ j) (pow_pos j)) in
-    let parts : x * 2 ^ k ≡ q * 2 ^ (j + k) + r * 2 ^ k = ap (λ y. y * 2 ^ k) (sym (shr_split x j)) ∙ add-mul (q * 2 ^ j) r (2 ^ k) ∙ ap (λ y. y + r * 2 ^ k) (mul_assoc q (2 ^ j) (2 ^ k) ∙ ap (λ y. q * y) (sym (pow-add 2 j k))) in
-    ap (λ y. y % 2 ^ (j + k)) parts ∙ mod_low q (j + k) (r * 2 ^ k) small
 
 -- the k digits that leave above come back below
 turned : (x j k : ℕ) → x < 2 ^ (j + k) → bit_or ((x * 2 ^ k) % 2 ^ (j + k)) (x / 2 ^ j) ≡ (x * 2 ^ k) % 2 ^ (j + k) + x / 2 ^ j

@@ -69,7 +69,7 @@ more_tables bodies tables new k b js e long within is fit h =
     }
 
 -- the table of a body
-pub table_at : (m n : Module) (tables : List (List Jump)) (k : ℕ) (js : List Jump) → m ≡ n → ValidWith m tables → k < length n.bodies → js ≡ get_or tables k js → (b : Body) → slice_get n.bodies k ≡ Some b → JumpsFit b.code js
-table_at m n tables k js same h within is b at =
+pub table_at : (m n : Module) (tables : List (List Jump)) (counts : List ℕ) (k : ℕ) (js : List Jump) → m ≡ n → ValidWith m tables counts → k < length n.bodies → js ≡ get_or tables k js → (b : Body) → slice_get n.bodies k ≡ Some b → JumpsFit b.code js
+table_at m n tables counts k js same h within is b at =
     let bodies = ap (λ (x : Module). x.bodies) same in
     h.tables_fit.each k b js (ap (λ l. slice_get l k) bodies ∙ at) (slice_get_read tables (length m.bodies) k js (sym h.tables_fit.as_many) (subst (λ l. k < length l) (sym bodies) within) is)

@@ -1,8 +1,9 @@
 -- Where the places of a body lead, by what is left of each open block there (`Parse`). This project's own.
-use Rattle.std.specs.Prelude.{◌≡◌, ℕ, ◌+◌, ◌≤◌, List, [], ◌∷◌, Option, Some, None, length, drop, slice_get}
+use Rattle.std.specs.Prelude.{◌≡◌, ℕ, ◌+◌, ◌≤◌, List, [], ◌∷◌, Option, Some, None, length, drop, map, slice_get}
 use Rattle.faaslet_meaning.specs.declared.instr.Instr.{Instr}
 use Rattle.faaslet_meaning.specs.declared.module.Body.{Body}
 use Rattle.faaslet_meaning.specs.declared.module.Module.{Module}
+use Rattle.faaslet_meaning.specs.IndexSpaces.{local_count}
 use Rattle.faaslet_meaning.specs.Valid.{Valid}
 use Rattle.faaslet_meaning.specs.Tree.{Tree, stop}
 use Rattle.faaslet_meaning.specs.Parse.{Part, part, parts}
@@ -30,10 +31,11 @@ pub record TablesFit (bodies : List Body) (tables : List (List Jump)) : Type 0 w
   pub as_many : length tables ≡ length bodies
   pub each : (k : ℕ) (b : Body) (js : List Jump) → slice_get bodies k ≡ Some b → slice_get tables k ≡ Some js → JumpsFit b.code js
 
--- the module is valid, and these are the jumps of its bodies
-pub record ValidWith (m : Module) (tables : List (List Jump)) : Type 0 where
+-- the module is valid, and these are the jumps of its bodies, and how many locals each has beside its parameters
+pub record ValidWith (m : Module) (tables : List (List Jump)) (counts : List ℕ) : Type 0 where
   pub valid : Valid m
   pub tables_fit : TablesFit m.bodies tables
+  pub counts_are : counts ≡ map local_count m.bodies
 
 -- The pass from the end of the code: the blocks that are open, innermost first, are those of which something is left. Where
 -- the code is read as nothing, nothing is said.

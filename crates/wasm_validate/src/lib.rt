@@ -26,6 +26,3 @@ mod valid;
 pub use invalid::{Invalid, Refused};
 pub use jumps::{Jump, Jumps};
 pub use valid::{ValidModule, validate};
-
-#[cfg(test)]
-mod tests;

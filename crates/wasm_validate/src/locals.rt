@@ -1,9 +1,10 @@
 //! The locals of a body, found without being written out.
 
-ghost use Rattle.std.specs.Prelude.{◌≡◌, ◌++◌, ◌<◌, ◌^◌, IfOk, option_map, slice_get, sum_by};
+ghost use Rattle.std.specs.Prelude.{◌≡◌, ◌++◌, ◌<◌, ◌^◌, All, IfOk, map, option_map, slice_get, sum_by};
+ghost use Rattle.faaslet_meaning.specs.IndexSpaces.{local_count};
 ghost use Rattle.wasm_validate.specs.Groups.{in_groups};
 
-use faaslet_meaning::{LocalGroup, ValType};
+use faaslet_meaning::{Body, LocalGroup, ValType};
 use std::alloc::{AllocError, Global};
 use std::marker::Model;
 
@@ -77,4 +78,28 @@ impl<'m> Locals<'m> {
             .partition_point(|end| *end as usize <= behind);
         kind_of(self.groups, place)
     }
+}
+
+/// How many locals these groups are.
+fn count_in(groups: &[LocalGroup]) -> u64
+    requires { sum_by (λ g. g.count) groups.now < 2 ^ 32 }
+    ensures { result ≡ sum_by (λ g. g.count) groups.now }
+{
+    let mut count: u64 = 0;
+    for group in groups {
+        count += u64::from(group.count);
+    }
+    count
+}
+
+/// How many locals each body has beside its parameters.
+pub fn counts_of(alloc: Global, bodies: &[Body]) -> Result<Vec<u64>, AllocError>
+    requires { All (λ b. local_count b < 2 ^ 32) bodies.now }
+    ensures { IfOk result (λ counts. counts.items ≡ map local_count bodies.now) }
+{
+    let mut counts = Vec::new(alloc);
+    for body in bodies {
+        counts.push(count_in(body.locals.as_slice()))?;
+    }
+    Ok(counts)
 }

@@ -6,9 +6,9 @@ returns-in-Err-Broken-clause-runs c = rw c.in-Err-Broken.kind-is (broken_runs c.
 
 pub finish-requires : goal.finish-requires
 finish-requires c =
-    (c.args.module.now, c.args.fuel, is_fresh c.args.module.now c.args.fuel c.in-Ok.proto c.in-Ok.ensures.snapshot _ c.restore.new.machine c.in_ok-machine.machine.writable c.requires.no_imports c.in_ok-machine.ensures.writable c.restore.ensures.stands)
+    (c.args.module.now, c.args.fuel, is_fresh c.args.module.now c.args.fuel c.in-Ok.proto c.in-Ok.ensures.snapshot _ c.restore.new.machine c.in_ok-machine.machine.writable c.requires.no_imports c.in_ok-machine.ensures.writable c.restore.ensures.restored.stands)
 
 pub returns-clause-runs : goal.returns-clause-runs
 returns-clause-runs c =
-    let fresh = is_fresh c.args.module.now c.args.fuel c.in-Ok.proto c.in-Ok.ensures.snapshot _ c.restore.new.machine c.in_ok-machine.machine.writable c.requires.no_imports c.in_ok-machine.ensures.writable c.restore.ensures.stands in
+    let fresh = is_fresh c.args.module.now c.args.fuel c.in-Ok.proto c.in-Ok.ensures.snapshot _ c.restore.new.machine c.in_ok-machine.machine.writable c.requires.no_imports c.in_ok-machine.ensures.writable c.restore.ensures.restored.stands in
     λ input. c.finish.ensures.runs c.args.module.now c.args.fuel fresh input

@@ -1,12 +1,11 @@
-use Rattle.std.proofs.Common.{rules, ◌≡◌, ◌∙◌, ◌+◌, ◌-◌, ◌<◌, ◌^◌, length, sym, ap, arith, Some, refl, subst}
-use Rattle.std.specs.Prelude.{slice_get, sum_by}
+use Rattle.std.proofs.Common.{rules, ◌≡◌, ◌∙◌, ◌+◌, ◌-◌, ◌<◌, length, sym, ap, arith, Some, refl, subst}
+use Rattle.std.specs.Prelude.{slice_get}
 use Rattle.std.proofs.lemmas.Option.{slice_get_read}
-use Rattle.faaslet_meaning.specs.declared.module.LocalGroup.{LocalGroup}
 use Rattle.faaslet_meaning.specs.declared.module.Module.{Module}
 use Rattle.faaslet_meaning.specs.Program.{functions_of, host_number}
 use Rattle.wasm_validate.specs.Jumps.{JumpsFit}
 use Rattle.faaslet_meaning.specs.Valid.{Valid}
-use Rattle.wasm_interp.proofs.OwnFunctions.{own_within, few_locals, finds_host, finds_own}
+use Rattle.wasm_interp.proofs.OwnFunctions.{own_within, finds_host, finds_own}
 use Rattle.wasm_interp.proofs.functions.find_function.Goals as goal
 
 pub returns-then-f-imports : goal.returns-then-f-imports
@@ -48,20 +47,13 @@ jumps-requires c =
     let imports : length c.as_slice-imports.result.now ≡ length m.imports = ap length c.as_slice-imports.ensures ∙ ap (λ (n : Module). length n.imports) same in
     omega (arith, (own_within m v c.requires.imports c.args.f c.requires.there.0 (omega (arith, imports)) c.requires.there.1).1)
 
-pub locals_in-requires : goal.locals_in-requires
-locals_in-requires c =
+pub local_count-requires : goal.local_count-requires
+local_count-requires c =
     let m = c.args.code.now in
-    let f = c.args.f in
     let same = c.module-module.ensures.same in
     let v = subst Valid same c.module-module.ensures.valid in
-    let place = f - length c.as_slice-imports.result.now in
     let imports : length c.as_slice-imports.result.now ≡ length m.imports = ap length c.as_slice-imports.ensures ∙ ap (λ (n : Module). length n.imports) same in
-    let bodies : length c.as_slice-2.result.now ≡ length m.bodies = ap length c.as_slice-2.ensures ∙ ap (λ (n : Module). length n.bodies) same in
-    let lt : place < length c.as_slice-2.result.now = omega (arith, (own_within m v c.requires.imports f c.requires.there.0 (omega (arith, imports)) c.requires.there.1).1) in
-    let b = c.index-as_slice-place.result in
-    let at : slice_get m.bodies place ≡ Some b =
-    ap (λ (n : Module). slice_get n.bodies place) (sym same) ∙ ap (λ l. slice_get l place) (sym c.as_slice-2.ensures) ∙ slice_get_read c.as_slice-2.result.now _ place b refl lt c.index-as_slice-place.is in
-    subst (λ l. sum_by (λ (x : LocalGroup). x.count) l < 2 ^ 32) (sym c.as_slice-5.ensures) (few_locals m v c.requires.imports f place b at)
+    omega (arith, (own_within m v c.requires.imports c.args.f c.requires.there.0 (omega (arith, imports)) c.requires.there.1).1)
 
 pub returns : goal.returns
 returns c g e =
@@ -80,4 +72,4 @@ returns c g e =
     let p : f ≡ length m.imports + place = omega (arith, imports) in
     finds_own m v c.requires.imports f place g _ b c.function_type-t.result.now p e at (c.function_type-t.ensures.is g found) c.function_type-t.ensures.few
     c.as_slice-3.ensures (subst (λ l. JumpsFit b.code l) (sym c.as_slice-4.ensures) (c.jumps.ensures b at)) (ap length c.as_slice-params.ensures)
-    (c.locals_in.ensures ∙ ap (sum_by (λ (x : LocalGroup). x.count)) c.as_slice-5.ensures) (ap length c.as_slice-6.ensures)
+    (c.local_count.ensures b at) (ap length c.as_slice-5.ensures)

@@ -1,5 +1,5 @@
 use Rattle.std.proofs.Common.{◌<◌, ◌^◌, ◌*◌, ◌+◌, ap, arith, subst, sym}
-use Rattle.wasm_interp.proofs.WordBytes.{shifted, joined_small, within_word}
+use Rattle.faaslet_meaning.proofs.WordBytes.{shifted, joined_small, within_word}
 use Rattle.wasm_interp.proofs.words.joined.Goals as goal
 
 pub overflow_add-result : goal.overflow_add-result

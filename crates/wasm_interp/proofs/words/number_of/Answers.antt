@@ -1,7 +1,7 @@
 use Rattle.std.proofs.Common.{◌≡◌, ◌<◌, ◌^◌, ◌*◌, length, ◌++◌, ◌∙◌, drop, replicate, subst, sym, ℕ, arith, get_or}
 use Rattle.std.specs.Int.{w64, from_le_bytes}
 use Rattle.faaslet_meaning.specs.LoadStore.{number}
-use Rattle.wasm_interp.proofs.WordBytes.{in_front, small_of}
+use Rattle.faaslet_meaning.proofs.WordBytes.{in_front, small_of}
 use Rattle.wasm_interp.proofs.words.number_of.Goals as goal
 
 pub returns : goal.returns

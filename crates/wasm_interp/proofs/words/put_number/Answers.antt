@@ -1,5 +1,5 @@
 use Rattle.std.proofs.Common.{length, take, ap, ◌∙◌}
-use Rattle.wasm_interp.proofs.WordBytes.{front, eight_of}
+use Rattle.faaslet_meaning.proofs.WordBytes.{front, eight_of}
 use Rattle.wasm_interp.proofs.words.put_number.Goals as goal
 
 pub returns : goal.returns

@@ -8,10 +8,10 @@ pub returns-clause-stands : goal.returns-clause-stands
 returns-clause-stands c memory t body none is =
     let self = c.args.self.now in
     let o = c.args.own in
-    let values : c.put_zeros.new.values ≡ replicate o.locals 0 ++ [] =
+    let values : c.put_zeros.new.self ≡ replicate o.locals 0 ++ [] =
     c.put_zeros.ensures ∙ ap (λ (l : List ℕ). replicate o.locals 0 ++ l) (c.cut.ensures ∙ drop_all self.values c.len.result c.len.ensures) in
     begins memory (record {
-      values = c.put_zeros.new.values;
+      values = c.put_zeros.new.self;
       labels = c.cut-2.new.self;
       frames = c.cut-3.new.self;
       here = record { code = o.code; jumps = o.jumps; pc = 0; base = 0; height = o.locals; depth = 0; arity = o.results };

@@ -1,4 +1,4 @@
-use Rattle.std.proofs.Common.{◌≡◌, ◌∙◌, ap, sym, refl, ◌∷◌, true, false, lit<, Some}
+use Rattle.std.proofs.Common.{◌≡◌, ◌∙◌, ap, sym, refl, ◌∷◌, true, false, Some}
 use Rattle.std.specs.Prelude.{slice_get}
 use Rattle.std.proofs.lemmas.Bool.{not-true, not-false, both_ways}
 use Rattle.wasm_interp.proofs.Branches.{branch_fits, branch_follows}
@@ -7,7 +7,8 @@ use Rattle.wasm_interp.proofs.thread.Thread.branch.Goals as goal
 pub unwind-requires : goal.unwind-requires
 unwind-requires c =
     let (memory, d, s, ok) = c.requires.ready in
-    (lit< tt, branch_fits memory c.args.self.now d c.args.n s c.requires.inner c.get-label.result (ap (λ l. slice_get l 0) (sym c.cut.ensures) ∙ c.get-label.ensures) ok)
+    let fits = branch_fits memory c.args.self.now d c.args.n s c.requires.inner c.get-label.result (ap (λ l. slice_get l 0) (sym c.cut.ensures) ∙ c.get-label.ensures) ok in
+    record { few = fits.0; within = fits.1 }
 
 pub returns-then-not-label-clause-done : goal.returns-then-not-label-clause-done
 returns-then-not-label-clause-done c memory d s ok =

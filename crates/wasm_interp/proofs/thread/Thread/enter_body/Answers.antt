@@ -10,4 +10,4 @@ returns-then-not-has_room-clause-done c memory d t body s params results few who
 pub returns-clause-done : goal.returns-clause-done
 returns-clause-done c memory d t body s params results few whole fit ok =
     let base : c.len.result - c.args.params ≡ length c.args.self.now.values - length t.params = omega (arith, params, c.len.ensures) in
-    call_enters memory c.args.self.now d s t c.args.extra body ok _ c.put_zeros.new.values c.push.new.self (c.has_room.ensures.0 c.if-not-has_room.false) c.push.ensures c.put_zeros.ensures refl refl base c.len-height.ensures (sym results) few whole fit
+    call_enters memory c.args.self.now d s t c.args.extra body ok _ c.put_zeros.new.self c.push.new.self (c.has_room.ensures.0 c.if-not-has_room.false) c.push.ensures c.put_zeros.ensures refl refl base c.len-height.ensures (sym results) few whole fit

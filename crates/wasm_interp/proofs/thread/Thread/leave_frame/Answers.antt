@@ -1,11 +1,11 @@
-use Rattle.std.proofs.Common.{lit<}
 use Rattle.wasm_interp.proofs.Leaving.{results_fit, frame_left}
 use Rattle.wasm_interp.proofs.thread.Thread.leave_frame.Goals as goal
 
 pub unwind-requires : goal.unwind-requires
 unwind-requires c =
     let (memory, d, s, ok) = c.requires in
-    (lit< tt, results_fit memory c.args.self.now d s ok)
+    let fits = results_fit memory c.args.self.now d s ok in
+    record { few = fits.0; within = fits.1 }
 
 pub returns-clause-done : goal.returns-clause-done
 returns-clause-done c memory d s ok =

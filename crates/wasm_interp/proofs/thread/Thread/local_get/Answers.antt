@@ -1,4 +1,4 @@
-use Rattle.std.proofs.Common.{rules, ◌+◌, ◌<◌, length, sym, ◌∙◌, lit<}
+use Rattle.std.proofs.Common.{rules, ◌+◌, ◌<◌, length, sym, ◌∙◌}
 use Rattle.wasm_interp.proofs.LocalSteps.{local_there, local_within, local_is, get_follows}
 use Rattle.wasm_interp.proofs.thread.Thread.local_get.Goals as goal
 
@@ -11,7 +11,7 @@ overflow_add-self c =
 pub at-v-requires : goal.at-v-requires
 at-v-requires c =
     let (memory, d, s, ok) = c.requires.1 in
-    (lit< tt, local_within memory c.args.self.now d c.args.k s (local_there d c.args.k ok))
+    local_within memory c.args.self.now d c.args.k s (local_there d c.args.k ok)
 
 pub returns-clause-done : goal.returns-clause-done
 returns-clause-done c p memory d s ok =

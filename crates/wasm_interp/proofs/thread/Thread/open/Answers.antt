@@ -1,4 +1,4 @@
-use Rattle.std.proofs.Common.{◌∙◌, sym, ap, subst, None, Some, lit<, ℕ, refl}
+use Rattle.std.proofs.Common.{◌∙◌, sym, ap, subst, None, Some, ℕ, refl}
 use Rattle.faaslet_meaning.specs.declared.instr.Instr.{Instr}
 use Rattle.faaslet_meaning.specs.Configuration.{Next}
 use Rattle.faaslet_meaning.specs.Limits.{enter, with_values}
@@ -20,7 +20,7 @@ pop-requires c =
     let (memory, d, s, ok) = c.requires.ready.1 in
     let at = subst (λ (i : Instr). InstrAt t.here i) c.in-If.is c.requires.at in
     let o = if_opens p memory t d c.in-If.kind c.args.jump at c.requires.jump s in
-    (lit< tt, value_there memory (moved t c.args.jump.after) (with_rest d o.rest) o.stands (if_needs (with_rest d o.rest) (arity_of c.in-If.kind) o.body (side_of o.side) d.frame.values (λ h. ok (o.is ∙ h))))
+    value_there memory (moved t c.args.jump.after) (with_rest d o.rest) o.stands (if_needs (with_rest d o.rest) (arity_of c.in-If.kind) o.body (side_of o.side) d.frame.values (λ h. ok (o.is ∙ h)))
 
 pub returns-in-Block-clause-done : goal.returns-in-Block-clause-done
 returns-in-Block-clause-done c p memory d s ok =

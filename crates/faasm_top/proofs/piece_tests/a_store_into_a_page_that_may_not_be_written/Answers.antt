@@ -1,6 +1,0 @@
-use Rattle.std.proofs.Common.{[], refl}
-use Rattle.wasm_interp.proofs.Trying.{agrees_none}
-use Rattle.faasm_top.proofs.piece_tests.a_store_into_a_page_that_may_not_be_written.Goals as goal
-
-pub stored-requires : goal.stored-requires
-stored-requires g c = ([], agrees_none 0 refl)
