@@ -1,0 +1,5 @@
+pub mod Entered
+pub mod Named
+pub mod Placed
+pub mod Pushed
+pub mod Sums

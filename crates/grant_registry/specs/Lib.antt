@@ -1,0 +1,3 @@
+pub mod Entries
+pub mod Refuses
+pub mod Shows
