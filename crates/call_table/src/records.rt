@@ -1,0 +1,127 @@
+//! What the records say: how far a call is, which call is next, and what a request takes.
+
+ghost use Rattle.std.specs.Prelude.{◌≡◌, ◌<◌, ◌≤◌, ◌^◌, ◌++◌, ◌==◌, [], All, IsTrue, IfSome, IfNone, length, filter, not};
+ghost use Rattle.faaslet_meaning.specs.Lists.{first, passes_at};
+ghost use Rattle.faaslet_meaning.specs.Records as said;
+ghost use Rattle.call_table.specs.Held.{IsSmall};
+
+use faaslet_meaning::{CallRecord, CallState};
+
+pub(crate) fn is_queued(state: &CallState) -> bool
+    ensures { result ≡ said.is_queued state.now }
+{
+    matches!(state, CallState::Queued)
+}
+
+pub(crate) fn is_open(state: &CallState) -> bool
+    ensures { result ≡ said.is_open state.now }
+{
+    matches!(state, CallState::Taken { .. })
+}
+
+pub(crate) fn is_finished(state: &CallState) -> bool
+    ensures { result ≡ said.is_finished state.now }
+{
+    matches!(state, CallState::Finished { .. })
+}
+
+fn is_child(known: &CallRecord, parent: u32, child: u32) -> bool
+    ensures { result ≡ said.is_child parent child known.now }
+{
+    match known.parent {
+        Some(p) => p == parent && known.child == child,
+        None => false,
+    }
+}
+
+/// The lowest call that is queued at a host.
+fn queued_at(records: &[CallRecord], host: u32) -> Option<usize>
+    ensures { result ≡ first (said.queue records.now host) }
+{
+    for (call, r) in records.iter().enumerate() {
+        if is_queued(&r.state) && r.placed == host {
+            return Some(call);
+        }
+    }
+    None
+}
+
+/// The lowest call that is queued at any host.
+fn queued_anywhere(records: &[CallRecord]) -> Option<usize>
+    ensures { result ≡ first (said.queued_calls records.now) }
+{
+    for (call, r) in records.iter().enumerate() {
+        if is_queued(&r.state) {
+            return Some(call);
+        }
+    }
+    None
+}
+
+/// The call that a host takes next.
+pub(crate) fn next(records: &[CallRecord], host: u32) -> Option<usize>
+    ensures first { result ≡ first (said.queue records.now host ++ said.queued_calls records.now) }
+    ensures queued { IfSome result (λ call. IsTrue (passes_at (λ r. said.is_queued r.state) records.now call)) }
+    ensures none { IfNone result (said.queued_calls records.now ≡ []) }
+{
+    match queued_at(records, host) {
+        Some(call) => Some(call),
+        None => queued_anywhere(records),
+    }
+}
+
+pub(crate) fn child_of(records: &[CallRecord], parent: u32, child: u32) -> Option<usize>
+    ensures { result ≡ said.child_of records.now parent child }
+{
+    for (call, r) in records.iter().enumerate() {
+        if is_child(r, parent, child) {
+            return Some(call);
+        }
+    }
+    None
+}
+
+/// How many calls were taken so far.
+pub(crate) fn takes(records: &[CallRecord]) -> usize
+    ensures count { result ≡ said.takes records.now }
+    ensures few { result ≤ length records.now }
+{
+    records.iter().filter(|r| !is_queued(&r.state)).count()
+}
+
+pub(crate) fn unfinished(records: &[CallRecord]) -> usize
+    ensures count { result ≡ length (filter (λ r. not (said.is_finished r.state)) records.now) }
+    ensures few { result ≤ length records.now }
+{
+    records.iter().filter(|r| !is_finished(&r.state)).count()
+}
+
+pub(crate) fn requests(records: &[CallRecord]) -> usize
+    ensures count { result ≡ length (filter (λ r. r.depth == 1) records.now) }
+    ensures few { result ≤ length records.now }
+{
+    records.iter().filter(|r| r.depth == 1).count()
+}
+
+pub(crate) fn calls_of(records: &[CallRecord], request: u32) -> usize
+    ensures count { result ≡ length (said.calls_of records.now request) }
+    ensures few { result ≤ length records.now }
+{
+    records.iter().filter(|r| r.request == request).count()
+}
+
+/// The bytes of all inputs and rooms of a request.
+pub(crate) fn bytes_of(records: &[CallRecord], request: u32) -> u64
+    requires few { length records.now < 2 ^ 32 }
+    requires small { All IsSmall records.now }
+    ensures sum { result ≡ said.bytes_of records.now request }
+    ensures few { result < 2 ^ 50 }
+{
+    let mut bytes = 0;
+    for r in records {
+        if r.request == request {
+            bytes += r.input.as_slice().len() as u64 + u64::from(r.room);
+        }
+    }
+    bytes
+}
