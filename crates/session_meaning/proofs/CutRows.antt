@@ -2,7 +2,7 @@
 use Rattle.std.proofs.Common.{◌≡◌, zero, suc, [], ◌∷◌, ◌++◌, Some, length, slice_get, refl, sym, ap, arith}
 use Rattle.std.specs.Prelude.{pos, codes, nat_le, true, false, All}
 use Rattle.faaslet_meaning.specs.declared.outcome.Outcome.TheVariants as outcome
-use Rattle.faaslet_meaning.specs.Channels.{Reply}
+use Rattle.faaslet_meaning.specs.Channels.{Operation, Reply}
 use Rattle.faaslet_meaning.specs.History.{History, left, table_rules}
 use Rattle.faaslet_meaning.specs.Table.{TableOperation, submit_request, submit, take_next, take_this, finish, look}
 use Rattle.session_meaning.specs.Plan.{Plan, Names, is_function_of, is_key_of, ClosedAt, Closed}
@@ -48,10 +48,10 @@ requests_are_first = refl
 cut_so : cut_history (part_in plan long no_keys history) (first_table plan) history ≡ (0, submit_request 0 0 []) ∷ (0, take_this 0 0 0) ∷ (0, submit 0 1 (7 ∷ [])) ∷ (0, take_this 1 0 0) ∷ (0, finish 1 (outcome.Done (pos 21)) 5 (1 ∷ []) (0 ∷ [])) ∷ (0, look 0 0) ∷ []
 cut_so = refl
 
-asked_so : asked_in (first_table plan) history ≡ (1, Reply.child 0) ∷ (1, Reply.finished (outcome.Done (pos 21)) (1 ∷ [])) ∷ []
+asked_so : asked_in (first_table plan) history ≡ (1, (Operation.submit 2 (7 ∷ []), Reply.child 0)) ∷ (1, (Operation.look 0, Reply.finished (outcome.Done (pos 21)) (1 ∷ []))) ∷ []
 asked_so = refl
 
-asked_in_cut : asked_in (first_table (cut_plan (part_in plan long no_keys history) plan)) (cut_history (part_in plan long no_keys history) (first_table plan) history) ≡ (0, Reply.child 0) ∷ (0, Reply.finished (outcome.Done (pos 21)) (1 ∷ [])) ∷ []
+asked_in_cut : asked_in (first_table (cut_plan (part_in plan long no_keys history) plan)) (cut_history (part_in plan long no_keys history) (first_table plan) history) ≡ (0, (Operation.submit 1 (7 ∷ []), Reply.child 0)) ∷ (0, (Operation.look 0, Reply.finished (outcome.Done (pos 21)) (1 ∷ []))) ∷ []
 asked_in_cut = refl
 
 -- the child is the first of the call of request b

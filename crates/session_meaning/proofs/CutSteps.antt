@@ -105,7 +105,7 @@ none_there plan w (End call) own h = by (open_at w call) refl
     by None e = refl
     by (Some o) e = let r = own o e in let k = r.1 in let no : ⊥ = cc in absurd no
 
-passes_on : (plan : Plan) (functions : Names) (rs : List CallRecord) (call : ℕ) → passes_at (λ r. is_function_of plan functions r.function) rs call ≡ true → (r : CallRecord) × (slice_get rs call ≡ Some r)
+pub passes_on : (plan : Plan) (functions : Names) (rs : List CallRecord) (call : ℕ) → passes_at (λ r. is_function_of plan functions r.function) rs call ≡ true → (r : CallRecord) × (slice_get rs call ≡ Some r)
 passes_on plan functions rs call h = by (slice_get rs call) refl h
   where
     by : (o : Option CallRecord) → slice_get rs call ≡ o → elim o as (λ o. Bool) [ None ↦ false | Some r ↦ is_function_of plan functions r.function ] ≡ true → (r : CallRecord) × (slice_get rs call ≡ Some r)

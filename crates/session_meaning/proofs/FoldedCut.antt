@@ -14,7 +14,7 @@ use Rattle.session_meaning.specs.Plan.{Key, NamedFunction, Request, Plan, callab
 use Rattle.session_meaning.specs.World.{Object, World, unused, on_table, requested, start, first_world}
 use Rattle.session_meaning.specs.Events.{step, world}
 use Rattle.session_meaning.specs.Cut.{Part, kept, rank, cut_object, cut_objects, cut_record, blank_record, cut_table, cut, blank, cut_named, cut_request, cut_plan, call_of, cut_event, cut_events}
-use Rattle.session_meaning.proofs.Kept.{kept_push}
+use Rattle.session_meaning.proofs.Kept.{kept_push, all_push}
 use Rattle.session_meaning.proofs.Renumbered.{channels_cut}
 use Rattle.session_meaning.proofs.Tables.{AllFit, callable_cut, get_end}
 use Rattle.session_meaning.proofs.WorldParts.{length_filled, table_cut, table_left, length_cut, blank_cut_world}
@@ -169,10 +169,6 @@ fit_before part w r fit n x e = fit n x (get_front w.table.records _ n x e)
 fit_first : (part : Part) (w : World) (rs : List Request) → AllFit part (fold requested w rs).table.records → AllFit part w.table.records
 fit_first part w [] fit = fit
 fit_first part w (r ∷ rs) fit = fit_before part w r (fit_first part (requested w r) rs fit)
-
-pub all_push : {A : Type 0} (test : A → Bool) (xs : List A) (x : A) → list_all test xs ≡ true → test x ≡ true → list_all test (xs ++ x ∷ []) ≡ true
-all_push test [] x h k = ap (λ b. b && true) k
-all_push test (y ∷ xs) x h k = let p = and_parts (test y) (list_all test xs) h in ap (λ b. b && list_all test (xs ++ x ∷ [])) p.0 ∙ all_push test xs x p.1 k
 
 -- what requests keep
 pub record Begun (w : World) : Type 0 where

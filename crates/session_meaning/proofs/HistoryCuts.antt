@@ -6,33 +6,33 @@ use Rattle.std.proofs.lemmas.Bool.{and_parts, ne_eqb, true≢false}
 use Rattle.std.proofs.lemmas.List.{length-append}
 use Rattle.faaslet_meaning.specs.declared.call.CallRecord.{CallRecord}
 use Rattle.faaslet_meaning.specs.Lists.{first, places, passes_at}
-use Rattle.faaslet_meaning.specs.Channels.{Reply}
+use Rattle.faaslet_meaning.specs.Channels.{Operation, Reply}
 use Rattle.faaslet_meaning.specs.Records.{is_queued, queue, queued_calls}
 use Rattle.faaslet_meaning.specs.Table as table
 use Rattle.faaslet_meaning.specs.Table.{Table, TableOperation, queued_record, taken, next, submit_request, submit, take_next, take_this, finish, look}
 use Rattle.faaslet_meaning.specs.History.{History, Legal, left, table_rules}
 use Rattle.session_meaning.specs.Plan.{Plan, Names, Closed, is_function_of}
-use Rattle.session_meaning.specs.Cut.{Part, rank, cut_table, blank_table, only, cut_table_operation, cut_plan}
-use Rattle.session_meaning.specs.HistoryCut.{first_table, is_request, requests_first, MayCall, CallsGranted, explicit, all_explicit, cut_history, asker, asked_in, replies_to, part_in, HistoryOfCut}
-use Rattle.session_meaning.proofs.Kept.{rank_eq}
+use Rattle.session_meaning.specs.Cut.{Part, rank, cut_operation, cut_table, blank_table, only, cut_table_operation, cut_plan}
+use Rattle.session_meaning.specs.HistoryCut.{first_table, is_request, requests_first, MayCall, CallsGranted, explicit, all_explicit, cut_history, asks, asked_in, told_in, cut_told, part_in, HistoryOfCut}
+use Rattle.session_meaning.proofs.Kept.{rank_eq, all_push}
 use Rattle.session_meaning.proofs.Tables.{AllFit, get_end, spot, first_place, found_at}
 use Rattle.session_meaning.proofs.Whole.{all, everything, fit_all}
-use Rattle.session_meaning.proofs.FoldedCut.{first_depth, filter_whole, all_push, callables_cut}
+use Rattle.session_meaning.proofs.FoldedCut.{first_depth, filter_whole, callables_cut}
 use Rattle.session_meaning.proofs.Invariants.{ClosedIn, Grows, grows_on, push_front, Kin, KinAt, Like, kin_push, Goes, take_goes, submit_goes, submit_grows, finish_goes}
 use Rattle.session_meaning.proofs.TwoWorlds.{Agrees, agrees_before, all_fit, closed_by_names}
-use Rattle.session_meaning.proofs.TableCuts.{Fine, CutSo, AskSo, MaySo, is_next, after_cut, ask_cut, may_cut, table_whole, cut_whole}
+use Rattle.session_meaning.proofs.TableCuts.{Fine, CutSo, renamed, AskSo, MaySo, is_next, after_cut, ask_cut, may_cut, table_whole, cut_whole}
 
 -- ---- One entry, and the one that the cut has in its place.
 
 record KeptFacts (part : Part) (t t' : Table) (m : ℕ) (op o : TableOperation) : Type 0 where
   pub leaves : cut_table part (table.after t m op) ≡ blank_table (table.after t' 0 o)
-  pub by_kept : asker o ≡ option_map (rank part.calls) (asker op)
-  pub kept : (c : ℕ) → asker op ≡ Some c → part.calls c ≡ true
-  pub answer : (c : ℕ) → asker op ≡ Some c → table.reply t m op ≡ table.reply t' 0 o
+  pub same : asks o ≡ option_map (renamed part) (asks op)
+  pub kept : (a : ℕ × Operation) → asks op ≡ Some a → part.calls a.0 ≡ true
+  pub answer : (a : ℕ × Operation) → asks op ≡ Some a → table.reply t m op ≡ table.reply t' 0 o
   pub may : table.may t m op ≡ true → table.may t' 0 o ≡ true
 
 abbrev Facts : Part → Table → Table → ℕ → TableOperation → Option TableOperation → Type 0
-Facts part t t' m op None = (cut_table part (table.after t m op) ≡ cut_table part t) × ((c : ℕ) → asker op ≡ Some c → part.calls c ≡ false)
+Facts part t t' m op None = (cut_table part (table.after t m op) ≡ cut_table part t) × ((a : ℕ × Operation) → asks op ≡ Some a → part.calls a.0 ≡ false)
 Facts part t t' m op (Some o) = KeptFacts part t t' m op o
 
 not_next : (o : TableOperation) → cut_table_operation everything o ≡ Some o → is_next o ≡ false
@@ -58,9 +58,9 @@ facts_by part t t' m op (Some o) e c a y firsts same =
     let cuts : cut_table part t ≡ cut_table everything t' = same ∙ sym (table_whole t') in
     record {
       leaves = c 0 ∙ ap (λ u. blank_table (table.after u 0 o)) cuts ∙ sym (after 0) ∙ table_whole (table.after t' 0 o);
-      by_kept = a.by_kept;
+      same = a.same;
       kept = a.kept;
-      answer = λ n i. a.answer n i 0 ∙ ap (λ u. table.reply u 0 o) cuts ∙ sym (ask.answer (rank part.calls n) (a.by_kept ∙ ap (option_map (rank part.calls)) i) 0);
+      answer = λ n i. a.answer n i 0 ∙ ap (λ u. table.reply u 0 o) cuts ∙ sym (ask.answer (renamed part n) (a.same ∙ ap (option_map (renamed part)) i) 0);
       may = λ h. sym (may 0) ∙ ap (λ u. table.may u 0 o) (sym cuts) ∙ y 0 ∙ h;
     }
 
@@ -111,12 +111,12 @@ abbrev taken_by : Table → ℕ → ℕ → Option ℕ → Table
 taken_by t host bench o = elim o [ None ↦ t | Some call ↦ taken t call host bench ]
 
 -- what the facts on one operation say of another that leaves the same and asks nothing
-facts_instead : (part : Part) (t t' : Table) (m : ℕ) (op op' : TableOperation) (x : Option TableOperation) → table.after t m op ≡ table.after t m op' → asker op ≡ None → asker op' ≡ None → (table.may t m op ≡ true → table.may t m op' ≡ true) → Facts part t t' m op' x → Facts part t t' m op x
+facts_instead : (part : Part) (t t' : Table) (m : ℕ) (op op' : TableOperation) (x : Option TableOperation) → table.after t m op ≡ table.after t m op' → asks op ≡ None → asks op' ≡ None → (table.may t m op ≡ true → table.may t m op' ≡ true) → Facts part t t' m op' x → Facts part t t' m op x
 facts_instead part t t' m op op' None same a b may f = (ap (cut_table part) same ∙ f.0, λ c e. let no : ⊥ = cc in absurd no)
 facts_instead part t t' m op op' (Some o) same a b may f =
     record {
       leaves = ap (cut_table part) same ∙ f.leaves;
-      by_kept = f.by_kept ∙ ap (option_map (rank part.calls)) (b ∙ sym a);
+      same = f.same ∙ ap (option_map (renamed part)) (b ∙ sym a);
       kept = λ c e. let no : ⊥ = cc in absurd no;
       answer = λ c e. let no : ⊥ = cc in absurd no;
       may = λ h. f.may (may h);
@@ -233,33 +233,36 @@ request_too part t op o e i = let no : ⊥ = cc in absurd no
 
 -- ---- All entries.
 
-abbrev renumbered : Part → List (ℕ × Reply) → List (ℕ × Reply)
-renumbered part asks = map (λ a. (rank part.calls a.0, a.1)) (filter (λ a. part.calls a.0) asks)
+abbrev renumbered : Part → List (ℕ × (Operation × Reply)) → List (ℕ × (Operation × Reply))
+renumbered part all = map (λ a. (rank part.calls a.0, cut_told part a.1)) (filter (λ a. part.calls a.0) all)
 
 record Follows (part : Part) (t t' : Table) (es cs : History TableOperation) : Type 0 where
   pub legal : Legal table_rules t es → Legal table_rules t' cs
   pub leaves : cut_table part (left table_rules t es) ≡ blank_table (left table_rules t' cs)
-  pub replies : asked_in t' cs ≡ renumbered part (asked_in t es)
+  pub told : asked_in t' cs ≡ renumbered part (asked_in t es)
 
-abbrev with_asker : Option ℕ → Reply → List (ℕ × Reply) → List (ℕ × Reply)
-with_asker o r rest = elim o [ None ↦ rest | Some call ↦ (call, r) ∷ rest ]
+abbrev with_asks : Option (ℕ × Operation) → Reply → List (ℕ × (Operation × Reply)) → List (ℕ × (Operation × Reply))
+with_asks o r rest = elim o [ None ↦ rest | Some a ↦ (a.0, (a.1, r)) ∷ rest ]
 
-left_out : (part : Part) (o : Option ℕ) (r : Reply) (rest : List (ℕ × Reply)) → ((c : ℕ) → o ≡ Some c → part.calls c ≡ false) → renumbered part rest ≡ renumbered part (with_asker o r rest)
+abbrev kept_when : Part → ℕ × Operation → Reply → List (ℕ × (Operation × Reply)) → Bool → List (ℕ × (Operation × Reply))
+kept_when part a r rest b = map (λ a. (rank part.calls a.0, cut_told part a.1)) (cond b ((a.0, (a.1, r)) ∷ filter (λ a. part.calls a.0) rest) (filter (λ a. part.calls a.0) rest))
+
+left_out : (part : Part) (o : Option (ℕ × Operation)) (r : Reply) (rest : List (ℕ × (Operation × Reply))) → ((a : ℕ × Operation) → o ≡ Some a → part.calls a.0 ≡ false) → renumbered part rest ≡ renumbered part (with_asks o r rest)
 left_out part None r rest h = refl
-left_out part (Some c) r rest h = sym (ap (λ b. map (λ a. (rank part.calls a.0, a.1)) (cond b ((c, r) ∷ filter (λ a. part.calls a.0) rest) (filter (λ a. part.calls a.0) rest))) (h c refl))
+left_out part (Some a) r rest h = sym (ap (kept_when part a r rest) (h a refl))
 
-answered : (part : Part) (o o' : Option ℕ) (r r' : Reply) (rest rest' : List (ℕ × Reply)) → o' ≡ option_map (rank part.calls) o → ((c : ℕ) → o ≡ Some c → part.calls c ≡ true) → ((c : ℕ) → o ≡ Some c → r ≡ r') → rest' ≡ renumbered part rest → with_asker o' r' rest' ≡ renumbered part (with_asker o r rest)
-answered part None o' r r' rest rest' e k a h = ap (λ o. with_asker o r' rest') e ∙ h
+answered : (part : Part) (o o' : Option (ℕ × Operation)) (r r' : Reply) (rest rest' : List (ℕ × (Operation × Reply))) → o' ≡ option_map (renamed part) o → ((a : ℕ × Operation) → o ≡ Some a → part.calls a.0 ≡ true) → ((a : ℕ × Operation) → o ≡ Some a → r ≡ r') → rest' ≡ renumbered part rest → with_asks o' r' rest' ≡ renumbered part (with_asks o r rest)
+answered part None o' r r' rest rest' e k a h = ap (λ o. with_asks o r' rest') e ∙ h
 answered part (Some c) o' r r' rest rest' e k a h =
-    ap (λ o. with_asker o r' rest') e
-    ∙ ap₂ (λ x xs. (rank part.calls c, x) ∷ xs) (sym (a c refl)) h
-    ∙ sym (ap (λ b. map (λ a. (rank part.calls a.0, a.1)) (cond b ((c, r) ∷ filter (λ a. part.calls a.0) rest) (filter (λ a. part.calls a.0) rest))) (k c refl))
+    ap (λ o. with_asks o r' rest') e
+    ∙ ap₂ (λ x xs. (rank part.calls c.0, (cut_operation part.functions c.1, x)) ∷ xs) (sym (a c refl)) h
+    ∙ sym (ap (kept_when part c r rest) (k c refl))
 
 abbrev blank_makers : List TableOperation → History TableOperation
 blank_makers ops = map (λ op. (0, op)) ops
 
 follows : (part : Part) (plan : Plan) → ClosedIn plan part.functions part.keys → (es : History TableOperation) (t t' : Table) → Agrees part (left table_rules t es).records → Kin part.functions t.records → CallsGranted plan t es → Phase t t' es → cut_table part t ≡ blank_table t' → Follows part t t' es (cut_history part t es)
-follows part plan closed [] t t' agrees kin granted phase same = record { legal = λ h. tt; leaves = same; replies = refl }
+follows part plan closed [] t t' agrees kin granted phase same = record { legal = λ h. tt; leaves = same; told = refl }
 follows part plan closed (e ∷ es) t t' agrees kin granted phase same =
     let u = table.after t e.0 e.1 in
     let later = agrees_before part u.records (left table_rules u es).records (history_grows u es) agrees in
@@ -282,35 +285,38 @@ follows part plan closed (e ∷ es) t t' agrees kin granted phase same =
         record {
           legal = λ h. rest.legal h.1;
           leaves = rest.leaves;
-          replies = rest.replies ∙ left_out part (asker e.1) (table.reply t e.0 e.1) (asked_in after es) f.1;
+          told = rest.told ∙ left_out part (asks e.1) (table.reply t e.0 e.1) (asked_in after es) f.1;
         }
     by (Some o) i f go =
         let rest = go (table.after t' 0 o) (phase_next t t' (table.after t' 0 o) e es (λ h k. firsts_push t' 0 o (request_too part t e.1 o i h) k) phase) f.leaves in
         record {
           legal = λ h. (f.may h.0, rest.legal h.1);
           leaves = rest.leaves;
-          replies = answered part (asker e.1) (asker o) (table.reply t e.0 e.1) (table.reply t' 0 o) (asked_in after es) (asked_in (table.after t' 0 o) (cut_history part after es)) f.by_kept f.kept f.answer rest.replies;
+          told = answered part (asks e.1) (asks o) (table.reply t e.0 e.1) (table.reply t' 0 o) (asked_in after es) (asked_in (table.after t' 0 o) (cut_history part after es)) f.same f.kept f.answer rest.told;
         }
 
 -- ---- One call.
 
-each_so : (part : Part) (c : ℕ) → part.calls c ≡ true → (asks : List (ℕ × Reply)) → replies_to (rank part.calls c) (renumbered part asks) ≡ replies_to c asks
+abbrev picked : ℕ × (Operation × Reply) → List (ℕ × (Operation × Reply)) → Bool → List (Operation × Reply)
+picked a rest b = map (λ a. a.1) (cond b (a ∷ rest) rest)
+
+each_so : (part : Part) (c : ℕ) → part.calls c ≡ true → (all : List (ℕ × (Operation × Reply))) → told_in (rank part.calls c) (renumbered part all) ≡ map (cut_told part) (told_in c all)
 each_so part c i [] = refl
-each_so part c i (a ∷ asks) = by (part.calls a.0) refl (each_so part c i asks)
+each_so part c i (a ∷ all) = by (part.calls a.0) refl (each_so part c i all)
   where
-    rest : List (ℕ × Reply)
-    rest = filter (λ a. a.0 == c) asks
+    rest : List (ℕ × (Operation × Reply))
+    rest = filter (λ a. a.0 == c) all
 
-    small : List (ℕ × Reply)
-    small = filter (λ a. a.0 == rank part.calls c) (renumbered part asks)
+    small : List (ℕ × (Operation × Reply))
+    small = filter (λ a. a.0 == rank part.calls c) (renumbered part all)
 
-    pick : (b : Bool) → map (λ a. a.1) small ≡ map (λ a. a.1) rest → map (λ a. a.1) (cond b ((rank part.calls a.0, a.1) ∷ small) small) ≡ map (λ a. a.1) (cond b (a ∷ rest) rest)
-    pick true h = ap (λ rs. a.1 ∷ rs) h
+    pick : (b : Bool) → map (λ a. a.1) small ≡ map (cut_told part) (map (λ a. a.1) rest) → picked (rank part.calls a.0, cut_told part a.1) small b ≡ map (cut_told part) (picked a rest b)
+    pick true h = ap (λ rs. cut_told part a.1 ∷ rs) h
     pick false h = h
 
-    by : (b : Bool) → part.calls a.0 ≡ b → map (λ a. a.1) small ≡ map (λ a. a.1) rest → replies_to (rank part.calls c) (map (λ a. (rank part.calls a.0, a.1)) (cond b (a ∷ filter (λ a. part.calls a.0) asks) (filter (λ a. part.calls a.0) asks))) ≡ map (λ a. a.1) (cond (a.0 == c) (a ∷ rest) rest)
-    by true k h = ap (λ b. map (λ a. a.1) (cond b ((rank part.calls a.0, a.1) ∷ small) small)) (rank_eq part.calls a.0 c k i) ∙ pick (a.0 == c) h
-    by false k h = h ∙ sym (ap (λ b. map (λ a. a.1) (cond b (a ∷ rest) rest)) (ne_eqb a.0 c (λ e. true≢false (sym i ∙ sym (ap part.calls e) ∙ k))))
+    by : (b : Bool) → part.calls a.0 ≡ b → map (λ a. a.1) small ≡ map (cut_told part) (map (λ a. a.1) rest) → told_in (rank part.calls c) (map (λ a. (rank part.calls a.0, cut_told part a.1)) (cond b (a ∷ filter (λ a. part.calls a.0) all) (filter (λ a. part.calls a.0) all))) ≡ map (cut_told part) (picked a rest (a.0 == c))
+    by true k h = ap (picked (rank part.calls a.0, cut_told part a.1) small) (rank_eq part.calls a.0 c k i) ∙ pick (a.0 == c) h
+    by false k h = h ∙ sym (ap (λ b. map (cut_told part) (picked a rest b)) (ne_eqb a.0 c (λ e. true≢false (sym i ∙ sym (ap part.calls e) ∙ k))))
 
 -- ---- The theorem.
 
@@ -327,6 +333,6 @@ history_of_cut plan functions keys es closed firsts granted =
     record {
       legal = f.legal;
       leaves = f.leaves;
-      replies = f.replies;
-      each_call = λ c i. ap (replies_to (rank part.calls c)) f.replies ∙ each_so part c i (asked_in (first_table plan) es);
+      told = f.told;
+      each_call = λ c i. ap (told_in (rank part.calls c)) f.told ∙ each_so part c i (asked_in (first_table plan) es);
     }

@@ -151,6 +151,10 @@ all_at test [] n x h e = let no : ⊥ = cc in absurd no
 all_at test (y ∷ xs) zero x h e = let same : y ≡ x = cc in ap test (sym same) ∙ (and_parts (test y) (list_all test xs) h).0
 all_at test (y ∷ xs) (suc n) x h e = all_at test xs n x (and_parts (test y) (list_all test xs) h).1 e
 
+pub all_push : {A : Type 0} (test : A → Bool) (xs : List A) (x : A) → list_all test xs ≡ true → test x ≡ true → list_all test (xs ++ x ∷ []) ≡ true
+all_push test [] x h k = ap (λ b. b && true) k
+all_push test (y ∷ xs) x h k = let p = and_parts (test y) (list_all test xs) h in ap (λ b. b && list_all test (xs ++ x ∷ [])) p.0 ∙ all_push test xs x p.1 k
+
 pub changed_id : {A : Type 0} (xs : List A) (n : ℕ) → changed xs n (λ x. x) ≡ xs
 changed_id [] n = refl
 changed_id (x ∷ xs) zero = refl

@@ -27,6 +27,8 @@ pub mod NamedWorlds
 pub mod NumbersStand
 pub mod Obstacles
 pub mod CutReports
+pub mod TableMakers
+pub mod PartMakers
 pub mod TableCuts
 pub mod HistoryCuts
 pub mod ExampleWorlds
@@ -45,6 +47,8 @@ pub mod CallsRan
 pub mod LockSteps
 pub mod CallLocks
 pub mod HeldLocks
+pub mod ChildrenThere
+pub mod ReasonChildren
 pub mod WorldSections
 pub mod OwnSections
 pub mod Schedules

@@ -8,12 +8,12 @@ use Rattle.faaslet_meaning.specs.declared.call.CallRecord.{CallRecord}
 use Rattle.faaslet_meaning.specs.declared.call.CallState.{CallState}
 use Rattle.faaslet_meaning.specs.declared.call.CallState.TheVariants.{Queued, Taken, Finished}
 use Rattle.faaslet_meaning.specs.Lists.{passes_at}
-use Rattle.faaslet_meaning.specs.Channels.{Reply}
+use Rattle.faaslet_meaning.specs.Channels.{Operation, Reply}
 use Rattle.faaslet_meaning.specs.Table as table
 use Rattle.faaslet_meaning.specs.Table.{Table, TableOperation, queued_record, submitted, submit_request, submit, take_next, take_this, finish, look}
 use Rattle.faaslet_meaning.specs.Records.{is_open, is_queued, is_finished, child_of}
-use Rattle.session_meaning.specs.Cut.{Part, kept, rank, cut_record, blank_record, blank_state, cut_table, blank_table, only, cut_table_operation}
-use Rattle.session_meaning.specs.HistoryCut.{asker}
+use Rattle.session_meaning.specs.Cut.{Part, kept, rank, cut_operation, cut_record, blank_record, blank_state, cut_table, blank_table, only, cut_table_operation}
+use Rattle.session_meaning.specs.HistoryCut.{asks}
 use Rattle.session_meaning.proofs.Kept.{kept_push}
 use Rattle.session_meaning.proofs.Tables.{AllFit, get_cut, passes_cut, child_of_cut, child_of_kept, blank_cut, take_cut, finish_cut, submit_cut, submit_reply_cut, look_reply_cut, take_left, finish_left, submit_left}
 use Rattle.session_meaning.proofs.Whole.{everything, kept_all, rank_all, records_all}
@@ -93,41 +93,48 @@ submit_answer part t m m' parent f input i fit fine = by (slice_get t.records pa
     by None e = ap (answers t f) e ∙ sym (ap (answers (cut_table part t) (rank part.functions f)) (get_cut part t.records parent i ∙ ap (option_map (cut_record part)) e))
     by (Some p) e = sym (submit_reply_cut part t m m' parent f input fit i (fine p e ∙ i))
 
+-- what a kept call asks, numbered anew
+abbrev pub renamed : Part → ℕ × Operation → ℕ × Operation
+renamed part a = (rank part.calls a.0, cut_operation part.functions a.1)
+
 pub record Asked (part : Part) (t : Table) (m : ℕ) (op o : TableOperation) : Type 0 where
-  pub by_kept : asker o ≡ option_map (rank part.calls) (asker op)
-  pub kept : (c : ℕ) → asker op ≡ Some c → part.calls c ≡ true
-  pub answer : (c : ℕ) → asker op ≡ Some c → (m' : ℕ) → table.reply t m op ≡ table.reply (cut_table part t) m' o
+  pub same : asks o ≡ option_map (renamed part) (asks op)
+  pub kept : (a : ℕ × Operation) → asks op ≡ Some a → part.calls a.0 ≡ true
+  pub answer : (a : ℕ × Operation) → asks op ≡ Some a → (m' : ℕ) → table.reply t m op ≡ table.reply (cut_table part t) m' o
 
 abbrev pub AskSo : Part → Table → ℕ → TableOperation → Option TableOperation → Type 0
-AskSo part t m op None = (c : ℕ) → asker op ≡ Some c → part.calls c ≡ false
+AskSo part t m op None = (a : ℕ × Operation) → asks op ≡ Some a → part.calls a.0 ≡ false
 AskSo part t m op (Some o) = Asked part t m op o
 
 some_same : {A : Type 0} {x y : A} → Some x ≡ Some y → x ≡ y
 some_same e = cc
 
-asks_only : (part : Part) (t : Table) (m : ℕ) (op o : TableOperation) (b : Bool) → (b ≡ true → Asked part t m op o) → (b ≡ false → (c : ℕ) → asker op ≡ Some c → part.calls c ≡ false) → AskSo part t m op (only b o)
+asks_only : (part : Part) (t : Table) (m : ℕ) (op o : TableOperation) (b : Bool) → (b ≡ true → Asked part t m op o) → (b ≡ false → (a : ℕ × Operation) → asks op ≡ Some a → part.calls a.0 ≡ false) → AskSo part t m op (only b o)
 asks_only part t m op o true k l = k refl
 asks_only part t m op o false k l = l refl
 
-silent : (part : Part) (t : Table) (m : ℕ) (op o : TableOperation) → asker op ≡ None → asker o ≡ None → Asked part t m op o
-silent part t m op o h k = record { by_kept = k ∙ sym (ap (option_map (rank part.calls)) h); kept = λ c e. let no : ⊥ = cc in absurd no; answer = λ c e. let no : ⊥ = cc in absurd no }
+silent : (part : Part) (t : Table) (m : ℕ) (op o : TableOperation) → asks op ≡ None → asks o ≡ None → Asked part t m op o
+silent part t m op o h k = record { same = k ∙ sym (ap (option_map (renamed part)) h); kept = λ a e. let no : ⊥ = cc in absurd no; answer = λ a e. let no : ⊥ = cc in absurd no }
 
-never : (part : Part) (op : TableOperation) → asker op ≡ None → (c : ℕ) → asker op ≡ Some c → part.calls c ≡ false
-never part op h c e = let no : ⊥ = cc in absurd no
+never : (part : Part) (op : TableOperation) → asks op ≡ None → (a : ℕ × Operation) → asks op ≡ Some a → part.calls a.0 ≡ false
+never part op h a e = let no : ⊥ = cc in absurd no
+
+by_parent : (part : Part) (parent : ℕ) (q : Operation) (a : ℕ × Operation) (b : Bool) → part.calls parent ≡ b → ◌≡◌ {A = Option (ℕ × Operation)} (Some (parent, q)) (Some a) → part.calls a.0 ≡ b
+by_parent part parent q a b i e = ap (λ x. part.calls x.0) (sym (some_same e)) ∙ i
 
 pub ask_cut : (part : Part) (t : Table) (m : ℕ) (op : TableOperation) → AllFit part t.records → Fine part t op → AskSo part t m op (cut_table_operation part op)
 ask_cut part t m (submit_request f host input) fit fine = asks_only part t m (submit_request f host input) (submit_request (rank part.functions f) host input) (part.functions f) (λ i. silent part t m _ _ refl refl) (λ i. never part (submit_request f host input) refl)
 ask_cut part t m (submit parent f input) fit fine =
     asks_only part t m (submit parent f input) (submit (rank part.calls parent) (rank part.functions f) input) (part.calls parent)
-    (λ i. record { by_kept = refl; kept = λ c e. ap part.calls (sym (some_same e)) ∙ i; answer = λ c e m'. submit_answer part t m m' parent f input i fit fine })
-    (λ i c e. ap part.calls (sym (some_same e)) ∙ i)
+    (λ i. record { same = refl; kept = λ a e. by_parent part parent (Operation.submit f input) a true i e; answer = λ a e m'. submit_answer part t m m' parent f input i fit fine })
+    (λ i a e. by_parent part parent (Operation.submit f input) a false i e)
 ask_cut part t m (take_next host bench) fit fine = never part (take_next host bench) refl
 ask_cut part t m (take_this call host bench) fit fine = asks_only part t m (take_this call host bench) (take_this (rank part.calls call) host 0) (part.calls call) (λ i. silent part t m _ _ refl refl) (λ i. never part (take_this call host bench) refl)
 ask_cut part t m (finish call o used output counts) fit fine = asks_only part t m (finish call o used output counts) (finish (rank part.calls call) o used output counts) (part.calls call) (λ i. silent part t m _ _ refl refl) (λ i. never part (finish call o used output counts) refl)
 ask_cut part t m (look parent child) fit fine =
     asks_only part t m (look parent child) (look (rank part.calls parent) child) (part.calls parent)
-    (λ i. record { by_kept = refl; kept = λ c e. ap part.calls (sym (some_same e)) ∙ i; answer = λ c e m'. sym (look_reply_cut part t m m' parent child fit i) })
-    (λ i c e. ap part.calls (sym (some_same e)) ∙ i)
+    (λ i. record { same = refl; kept = λ a e. by_parent part parent (Operation.look child) a true i e; answer = λ a e m'. sym (look_reply_cut part t m m' parent child fit i) })
+    (λ i a e. by_parent part parent (Operation.look child) a false i e)
 
 -- ---- Whether it may stand.
 

@@ -24,12 +24,12 @@ use Rattle.session_meaning.specs.OpenCall.{Open, Machine, stands, is_broken, ask
 use Rattle.session_meaning.specs.World.{World, unused, on_local, on_global, on_table, entered, requested, start, first_world}
 use Rattle.session_meaning.specs.Events.{answer, entries_now, put_call, open_at, open_of, why, step, Stand, world, Worlds}
 use Rattle.session_meaning.specs.Cut.{Part, kept, cut, blank, cut_plan, call_of, cut_event, cut_events, cut_why, part_of, CutWorld, plan_cut, events_cut, world_cut as cut_by}
-use Rattle.session_meaning.proofs.Kept.{length_changed}
+use Rattle.session_meaning.proofs.Kept.{length_changed, all_push}
 use Rattle.session_meaning.proofs.Tables.{AllFit, get_end}
 use Rattle.session_meaning.proofs.WorldParts.{Held, held_on, held_among, local_held, global_held, local_held_left, global_held_left, length_filled}
 use Rattle.session_meaning.proofs.OneStep.{AsksOwn, GrantsOwn, keeps_question, leaves_question, leaves_operation, Own, taken_by, finished_at, finished_of, asked_at, asked_of, step_left}
 use Rattle.session_meaning.proofs.Whole.{all, everything, no_next, whole, event_all}
-use Rattle.session_meaning.proofs.FoldedCut.{Ready, Plain, Along, Both, along_first, one_more, first_depth, Begun, requested_begun, filter_whole, kept_map, all_push, first_cut, world_cut}
+use Rattle.session_meaning.proofs.FoldedCut.{Ready, Plain, Along, Both, along_first, one_more, first_depth, Begun, requested_begun, filter_whole, kept_map, first_cut, world_cut}
 use Rattle.session_meaning.proofs.Enabled.{why_cut}
 use Rattle.session_meaning.proofs.Invariants.{Comes, begun, replying, AsksGranted, ClosedIn, own_question, own_grants, steps_come, Grows, grows_on, Kin, KinAt, Like, Goes, kin_push, push_front, changed_back, take_goes, submit_goes, submit_grows, finish_goes}
 

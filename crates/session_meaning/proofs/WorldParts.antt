@@ -1,6 +1,8 @@
 -- A world under a cut, part by part: its objects, the calls of its table, and its table.
 use Rattle.std.proofs.Common.{◌≡◌, ℕ, zero, suc, ◌+◌, ◌-◌, ◌≤◌, Bool, true, false, cond, List, [], ◌∷◌, ◌++◌, Option, Some, None, refl, sym, ap, ap₂, ◌∙◌, map, length, slice_get, option_map, unwrap_or, filter_map, option_and_then, replicate, arith}
+use Rattle.std.specs.Prelude.{◌&&◌}
 use Rattle.std.specs.List.{list_all, cons_option}
+use Rattle.std.proofs.lemmas.Bool.{and_parts}
 use Rattle.std.proofs.lemmas.List.{length-map, map-append, append-nil, length-append, length-replicate}
 use Rattle.std.proofs.lemmas.List.Elements.{filter_map-append}
 use Rattle.faaslet_meaning.specs.Lists.{changed}
@@ -12,15 +14,18 @@ use Rattle.session_meaning.specs.OpenCall.{Open}
 use Rattle.session_meaning.specs.World.{Object, World, applied, on_local, on_global, filled, on_table}
 use Rattle.session_meaning.specs.Events.{local_at, global_at, put_call, open_at}
 use Rattle.session_meaning.specs.Cut.{Part, kept, rank, cut_region, cut_entry, cut_object, cut_objects, cut_open, cut_record, cut_table, blank_table, blank_record, only, cut_table_operation, cut_table_entry, blank_entry, cut, blank}
-use Rattle.session_meaning.proofs.Kept.{get_kept, get_map, changed_kept, changed_left, changed_map, changed_id, length_kept, all_changed, all_at}
+use Rattle.session_meaning.proofs.Kept.{get_kept, get_map, changed_kept, changed_left, changed_map, changed_id, length_kept, all_changed, all_at, all_push}
 use Rattle.session_meaning.proofs.Regions.{held_by, after_cut, after_held}
 use Rattle.session_meaning.proofs.Tables.{blank_cut}
 
 -- ---- Objects.
 
--- all who hold a lock on a kept key are kept calls
+-- all who made an entry on a kept key, or hold a lock there, are kept calls
+abbrev makers_kept : Part → Object → Bool
+makers_kept part o = list_all (λ e. part.calls e.0) o.history
+
 abbrev pub held_on : Part → Object → Bool
-held_on part o = held_by part.calls o.region
+held_on part o = held_by part.calls o.region && makers_kept part o
 
 abbrev pub held_among : Part → List Object → Bool
 held_among part os = list_all (held_on part) (kept part.keys os)
@@ -30,7 +35,7 @@ pub record Held (part : Part) (w : World) : Type 0 where
   pub globals : held_among part w.globals ≡ true
 
 applied_cut : (part : Part) (call : ℕ) (op : RegionOperation) (o : Object) → part.calls call ≡ true → held_on part o ≡ true → cut_object part.calls (applied call op o) ≡ applied (rank part.calls call) op (cut_object part.calls o)
-applied_cut part call op o i h = ap₂ (λ s es. record { region = s; history = es }) (sym (after_cut part.calls o.region call op i h)) (map-append (cut_entry part.calls) o.history ((call, op) ∷ []))
+applied_cut part call op o i h = ap₂ (λ s es. record { region = s; history = es }) (sym (after_cut part.calls o.region call op i (and_parts (held_by part.calls o.region) (makers_kept part o) h).0)) (map-append (cut_entry part.calls) o.history ((call, op) ∷ []))
 
 objects_cut : (part : Part) (call key : ℕ) (op : RegionOperation) (os : List Object) → part.calls call ≡ true → part.keys key ≡ true → held_among part os ≡ true → cut_objects part (changed os key (applied call op)) ≡ changed (cut_objects part os) (rank part.keys key) (applied (rank part.calls call) op)
 objects_cut part call key op os i k h =
@@ -52,12 +57,17 @@ local_left part w host key call op k = ap (λ ls. record (cut part w) { locals =
 pub global_left : (part : Part) (w : World) (key call : ℕ) (op : RegionOperation) → part.keys key ≡ false → cut part (on_global w key call op) ≡ cut part w
 global_left part w key call op k = ap (λ gs. record (cut part w) { globals = gs }) (objects_left part call key op w.globals k)
 
--- those who hold a lock stay kept calls
+-- makers and holders stay kept calls
+applied_held : (part : Part) (call : ℕ) (op : RegionOperation) (o : Object) → part.calls call ≡ true → held_on part o ≡ true → held_on part (applied call op o) ≡ true
+applied_held part call op o i h =
+    let p = and_parts (held_by part.calls o.region) (makers_kept part o) h in
+    ap₂ (λ a b. a && b) (after_held part.calls o.region call op i p.0) (all_push (λ e. part.calls e.0) o.history (call, op) p.1 i)
+
 held_changed : (part : Part) (call key : ℕ) (op : RegionOperation) (os : List Object) → part.calls call ≡ true → held_among part os ≡ true → held_among part (changed os key (applied call op)) ≡ true
 held_changed part call key op os i h = by (part.keys key) refl
   where
     by : (b : Bool) → part.keys key ≡ b → held_among part (changed os key (applied call op)) ≡ true
-    by true k = ap (list_all (held_on part)) (changed_kept part.keys os key (applied call op) k) ∙ all_changed (held_on part) (kept part.keys os) (rank part.keys key) (applied call op) (λ o e g. after_held part.calls o.region call op i g) h
+    by true k = ap (list_all (held_on part)) (changed_kept part.keys os key (applied call op) k) ∙ all_changed (held_on part) (kept part.keys os) (rank part.keys key) (applied call op) (λ o e g. applied_held part call op o i g) h
     by false k = ap (list_all (held_on part)) (changed_left part.keys os key (applied call op) k) ∙ h
 
 pub local_held : (part : Part) (w : World) (host key call : ℕ) (op : RegionOperation) → part.calls call ≡ true → Held part w → Held part (on_local w host key call op)
@@ -102,7 +112,7 @@ local_at_held part w host key k h = by (slice_get w.locals host) refl
   where
     at : (os : List Object) → held_among part os ≡ true → (o : Option Object) → slice_get os key ≡ o → held_by part.calls (region_or (replica 0) o) ≡ true
     at os g None e = refl
-    at os g (Some x) e = all_at (held_on part) (kept part.keys os) (rank part.keys key) x g (get_kept part.keys os key k ∙ e)
+    at os g (Some x) e = (and_parts (held_by part.calls x.region) (makers_kept part x) (all_at (held_on part) (kept part.keys os) (rank part.keys key) x g (get_kept part.keys os key k ∙ e))).0
 
     by : (o : Option (List Object)) → slice_get w.locals host ≡ o → held_by part.calls (region_or (replica 0) (option_and_then (λ os. slice_get os key) o)) ≡ true
     by None e = refl
@@ -113,7 +123,7 @@ global_at_held part w key k h = by (slice_get w.globals key) refl
   where
     by : (o : Option Object) → slice_get w.globals key ≡ o → held_by part.calls (region_or (global_value 0 []) o) ≡ true
     by None e = refl
-    by (Some x) e = all_at (held_on part) (kept part.keys w.globals) (rank part.keys key) x h.globals (get_kept part.keys w.globals key k ∙ e)
+    by (Some x) e = (and_parts (held_by part.calls x.region) (makers_kept part x) (all_at (held_on part) (kept part.keys w.globals) (rank part.keys key) x h.globals (get_kept part.keys w.globals key k ∙ e))).0
 
 -- ---- Open calls.
 

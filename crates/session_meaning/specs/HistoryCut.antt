@@ -3,12 +3,12 @@ use Rattle.std.specs.Prelude.{◌≡◌, ◌==◌, ℕ, Bool, true, false, not, 
 use Rattle.std.specs.List.{list_all}
 use Rattle.faaslet_meaning.specs.declared.call.CallRecord.{CallRecord}
 use Rattle.faaslet_meaning.specs.Lists.{passes_at}
-use Rattle.faaslet_meaning.specs.Channels.{Reply}
+use Rattle.faaslet_meaning.specs.Channels.{Operation, Reply}
 use Rattle.faaslet_meaning.specs.Table as table
 use Rattle.faaslet_meaning.specs.Table.{Table, TableOperation, empty_table, submit_request, submit, take_next, take_this, look, next}
 use Rattle.faaslet_meaning.specs.History.{History, Legal, left, table_rules}
 use Rattle.session_meaning.specs.Plan.{NamedFunction, Plan, Names, is_function_of, is_key_of, callables}
-use Rattle.session_meaning.specs.Cut.{Part, rank, cut_table, blank_table, cut_table_operation, cut_plan}
+use Rattle.session_meaning.specs.Cut.{Part, rank, cut_table, blank_table, cut_operation, cut_table_operation, cut_plan}
 
 abbrev pub first_table : Plan → Table
 first_table plan = empty_table plan.hosts (callables plan)
@@ -49,21 +49,26 @@ all_explicit t (e ∷ es) = explicit t e.1 ∷ all_explicit (table.after t e.0 e
 abbrev pub cut_history : Part → Table → History TableOperation → History TableOperation
 cut_history part t es = map (λ op. (0, op)) (filter_map (cut_table_operation part) (all_explicit t es))
 
--- ---- What calls ask the table, and what they are answered.
+-- ---- What calls ask the table, and what they are told.
 
-abbrev pub asker : TableOperation → Option ℕ
-asker (submit parent function input) = Some parent
-asker (look parent child) = Some parent
-asker op = None
+-- a Submit and a Look, with the call that asks
+abbrev pub asks : TableOperation → Option (ℕ × Operation)
+asks (submit parent function input) = Some (parent, Operation.submit function input)
+asks (look parent child) = Some (parent, Operation.look child)
+asks op = None
 
 -- each Submit and each Look by its call, with its reply
-abbrev pub asked_in : Table → History TableOperation → List (ℕ × Reply)
+abbrev pub asked_in : Table → History TableOperation → List (ℕ × (Operation × Reply))
 asked_in t [] = []
-asked_in t (e ∷ es) = elim (asker e.1) [ None ↦ asked_in (table.after t e.0 e.1) es | Some call ↦ (call, table.reply t e.0 e.1) ∷ asked_in (table.after t e.0 e.1) es ]
+asked_in t (e ∷ es) = elim (asks e.1) [ None ↦ asked_in (table.after t e.0 e.1) es | Some a ↦ (a.0, (a.1, table.reply t e.0 e.1)) ∷ asked_in (table.after t e.0 e.1) es ]
 
--- the replies of one call
-abbrev pub replies_to : ℕ → List (ℕ × Reply) → List Reply
-replies_to call asks = map (λ a. a.1) (filter (λ a. a.0 == call) asks)
+-- what one call was told
+abbrev pub told_in : ℕ → List (ℕ × (Operation × Reply)) → List (Operation × Reply)
+told_in call all = map (λ a. a.1) (filter (λ a. a.0 == call) all)
+
+-- of a kept call, with the function that it submits numbered anew
+abbrev pub cut_told : Part → Operation × Reply → Operation × Reply
+cut_told part x = (cut_operation part.functions x.0, x.1)
 
 -- these functions and keys, with the calls of these functions that a history leaves
 abbrev pub part_in : Plan → Names → Names → History TableOperation → Part
@@ -75,9 +80,9 @@ part_in plan functions keys es =
     }
 
 -- The cut of a history is a history of the cut plan. It is legal where the whole is, it leaves the cut of what the whole leaves, but
--- for what is blank, and the Submits and Looks of these calls, and of each of them, get the same replies in it.
+-- for what is blank, and the Submits and Looks of these calls, and of each of them, are the same in it and get the same replies.
 pub record HistoryOfCut (plan : Plan) (part : Part) (es : History TableOperation) : Type 0 where
   pub legal : Legal table_rules (first_table plan) es → Legal table_rules (first_table (cut_plan part plan)) (cut_history part (first_table plan) es)
   pub leaves : cut_table part (left table_rules (first_table plan) es) ≡ blank_table (left table_rules (first_table (cut_plan part plan)) (cut_history part (first_table plan) es))
-  pub replies : asked_in (first_table (cut_plan part plan)) (cut_history part (first_table plan) es) ≡ map (λ a. (rank part.calls a.0, a.1)) (filter (λ a. part.calls a.0) (asked_in (first_table plan) es))
-  pub each_call : (call : ℕ) → part.calls call ≡ true → replies_to (rank part.calls call) (asked_in (first_table (cut_plan part plan)) (cut_history part (first_table plan) es)) ≡ replies_to call (asked_in (first_table plan) es)
+  pub told : asked_in (first_table (cut_plan part plan)) (cut_history part (first_table plan) es) ≡ map (λ a. (rank part.calls a.0, cut_told part a.1)) (filter (λ a. part.calls a.0) (asked_in (first_table plan) es))
+  pub each_call : (call : ℕ) → part.calls call ≡ true → told_in (rank part.calls call) (asked_in (first_table (cut_plan part plan)) (cut_history part (first_table plan) es)) ≡ map (cut_told part) (told_in call (asked_in (first_table plan) es))

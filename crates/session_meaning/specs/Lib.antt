@@ -24,5 +24,6 @@ pub mod Seen
 pub mod Cut
 pub mod CallNames
 pub mod NamedCut
+pub mod PartMakers
 pub mod CutReport
 pub mod HistoryCut

@@ -1,7 +1,8 @@
 //! Laws over cuts of sessions. The bodies are empty: what counts is what they ensure.
 
-ghost use Rattle.std.specs.Prelude.{◌≡◌, List, option_map, true};
+ghost use Rattle.std.specs.Prelude.{◌≡◌, ℕ, List, Some, option_map, true};
 ghost use Rattle.session_meaning.specs.declared.event.Event.{Event};
+ghost use Rattle.session_meaning.specs.declared.event.Why.TheVariants.{Child, Holder};
 ghost use Rattle.session_meaning.specs.CallNames.{CallsApart, DistinctLabels, DistinctNames, PathsApart, PlainLabels};
 ghost use Rattle.session_meaning.specs.Cut.{
   CutStep,
@@ -16,7 +17,9 @@ ghost use Rattle.session_meaning.specs.Cut.{
 };
 ghost use Rattle.session_meaning.specs.Events.{Worlds, why};
 ghost use Rattle.session_meaning.specs.NamedCut.{events_by_name, NumbersStand, plan_by_name, world_by_name};
+ghost use Rattle.session_meaning.specs.PartMakers.{MakersOfPart, OfPart};
 ghost use Rattle.session_meaning.specs.Plan.{Closed, Names, Plan};
+ghost use Rattle.session_meaning.specs.WellFormed.{WellFormed};
 ghost use Rattle.session_meaning.specs.World.{World};
 
 /// Of closed functions and keys the cut of a world is the world of the cut plan under the cut events,
@@ -80,4 +83,25 @@ pub fn one_cut_by_name()
 /// In a cut by names each number stands for the name that its call, function or key has in the whole.
 pub fn numbers_stand()
     ensures { (plan : Plan) (functions keys : Names) (w : World) → NumbersStand plan functions keys w }
+{}
+
+/// Who makes entries on the objects of closed keys, and who holds their locks, are calls of the closed
+/// functions, and an entry of the table is on such a call exactly where its maker is one. So in a cut the
+/// number of each of them stands for its name.
+pub fn makers_are_of_part()
+    ensures { (plan : Plan) (functions keys : Names) (events : List Event) (w : World)
+        → Closed plan functions keys → Worlds plan events w → MakersOfPart plan functions keys w }
+{}
+
+/// Whoever holds the lock for which an event on a call of these functions may not stand is such a call, and
+/// so, in a well-formed plan, is the child for which it may not.
+pub fn reasons_name_the_part()
+    ensures holders { (plan : Plan) (functions keys : Names) (events : List Event) (w : World) (e : Event)
+        (holder : ℕ) → Closed plan functions keys → Worlds plan events w
+        → calls_of plan functions w (call_of e) ≡ true → why w e ≡ Some (Holder holder)
+        → OfPart plan functions keys w holder }
+    ensures children { (plan : Plan) (functions keys : Names) (events : List Event) (w : World) (e : Event)
+        (child : ℕ) → WellFormed plan → Closed plan functions keys → Worlds plan events w
+        → calls_of plan functions w (call_of e) ≡ true → why w e ≡ Some (Child child)
+        → OfPart plan functions keys w child }
 {}

@@ -14,8 +14,8 @@ mod table_cut_laws;
 mod world_laws;
 
 pub use cut_laws::{
-    cut_is_world, distinct_calls, distinct_paths, numbers_stand, one_cut, one_cut_by_name,
-    one_event, one_reason,
+    cut_is_world, distinct_calls, distinct_paths, makers_are_of_part, numbers_stand, one_cut,
+    one_cut_by_name, one_event, one_reason, reasons_name_the_part,
 };
 pub use event::{Event, Events, Why};
 pub use fault::{Kind, RegFault, SessionFault, SessionList};

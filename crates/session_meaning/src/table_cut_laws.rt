@@ -8,7 +8,7 @@ ghost use Rattle.session_meaning.specs.HistoryCut.{CallsGranted, first_table, Hi
 ghost use Rattle.session_meaning.specs.Plan.{Closed, Names, Plan};
 
 /// Where requests come first and each call submits what its function may call, the entries on calls of
-/// closed functions are a history of their own, in which these calls are answered as in the whole.
+/// closed functions are a history of their own, in which these calls ask and are answered as in the whole.
 pub fn cut_of_history()
     ensures { (plan : Plan) (functions keys : Names) (history : History TableOperation)
         → Closed plan functions keys
