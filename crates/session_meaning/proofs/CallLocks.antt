@@ -31,7 +31,7 @@ abbrev pub keeps : Bool → List (Operation × Reply) → Bool
 keeps b [] = b
 keeps b (x ∷ xs) = keeps (sets x.0 b) xs
 
-keeps_both : (b : Bool) (xs ys : List (Operation × Reply)) → keeps b (xs ++ ys) ≡ keeps (keeps b xs) ys
+pub keeps_both : (b : Bool) (xs ys : List (Operation × Reply)) → keeps b (xs ++ ys) ≡ keeps (keeps b xs) ys
 keeps_both b [] ys = refl
 keeps_both b (x ∷ xs) ys = keeps_both (sets x.0 b) xs ys
 
@@ -57,7 +57,7 @@ same_self (Local k) = eq-eqb k k refl
 same_self (Global k) = eq-eqb k k refl
 same_self Table = refl
 
-channel_same : (a b : Channel) → same_channel a b ≡ true → a ≡ b
+pub channel_same : (a b : Channel) → same_channel a b ≡ true → a ≡ b
 channel_same (Local a) (Local b) e = ap Local (eqb-true a b e)
 channel_same (Global a) (Global b) e = ap Global (eqb-true a b e)
 channel_same Table Table e = refl

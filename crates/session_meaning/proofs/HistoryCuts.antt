@@ -98,7 +98,7 @@ place_passes test rs n e = found_at test rs n (by (spot test rs) (sym (first_pla
 queued_at : (test : CallRecord → Bool) (rs : List CallRecord) (n : ℕ) (r : CallRecord) → slice_get rs n ≡ Some r → test r ≡ true → passes_at test rs n ≡ true
 queued_at test rs n r e h = ap (λ o. elim o as (λ o. Bool) [ None ↦ false | Some r ↦ test r ]) e ∙ h
 
-next_queued : (t : Table) (host n : ℕ) → next t host ≡ Some n → passes_at (λ r. is_queued r.state) t.records n ≡ true
+pub next_queued : (t : Table) (host n : ℕ) → next t host ≡ Some n → passes_at (λ r. is_queued r.state) t.records n ≡ true
 next_queued t host n e = by (first (queue t.records host)) refl (sym (first_both (queue t.records host) (queued_calls t.records)) ∙ e)
   where
     by : (o : Option ℕ) → first (queue t.records host) ≡ o → elim o as (λ o. Option ℕ) [ None ↦ first (queued_calls t.records) | Some x ↦ Some x ] ≡ Some n → passes_at (λ r. is_queued r.state) t.records n ≡ true

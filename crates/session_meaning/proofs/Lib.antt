@@ -52,6 +52,10 @@ pub mod ReasonChildren
 pub mod WorldSections
 pub mod OwnSections
 pub mod Schedules
+pub mod Orders
+pub mod BenchParts
+pub mod OwnUnlocks
+pub mod RanSections
 mod WorldRuns
 mod TraceRuns
 mod OwnEntries

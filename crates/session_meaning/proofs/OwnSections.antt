@@ -64,14 +64,15 @@ append_in : (before between behind : History RegionOperation) (x y : ℕ × Regi
 append_in [] between behind x y = refl
 append_in (e ∷ before) between behind x y = ap (λ l. e ∷ l) (append_in before between behind x y)
 
-own_sections : (s : Region) (h : History RegionOperation) → Legal region_rules s h → Held s h → HasOwnSections h
-own_sections s h legal held maker other op before between behind same free = by (cases_eq other maker)
+pub sections_of : (s : Region) (h : History RegionOperation) → Legal region_rules s h → UnlocksHeld s h → HasOwnSections h
+sections_of s h legal held maker other op before between behind same free = by (cases_eq other maker)
   where
     by : (other ≡ maker) ⊎ (other ≡ maker → ⊥) → other ≡ maker
     by (inl e) = e
     by (inr apart) =
         let idle = has_sections s h legal maker other op before between behind same free apart in
-        let here = held_there s (before ++ (maker, RegionOperation.lock_write) ∷ between) behind other op (subst (Held s) (same ∙ append_in before between behind (maker, RegionOperation.lock_write) (other, op)) held) (ap is_unlock idle.0) in
+        let whole = same ∙ append_in before between behind (maker, RegionOperation.lock_write) (other, op) in
+        let here = held other (before ++ (maker, RegionOperation.lock_write) ∷ between) behind (whole ∙ ap (λ o. (before ++ (maker, RegionOperation.lock_write) ∷ between) ++ (other, o) ∷ behind) idle.0) in
         let none = idle.1 in
         let no : ⊥ = cc in absurd no
 
@@ -292,6 +293,6 @@ pub have_own_sections : (plan : Plan) (events : List Event) (w : World) → Well
 have_own_sections plan events w fine made host key k at =
     let lead = histories_lead plan events w made in
     let here = all_in plan events w fine made key k at in (
-      own_sections (replica k.size) (local_history w host key) (legal_in (λ k. replica k.size) plan.keys w.locals host key k lead.locals at) (here.0 host),
-      own_sections (global_value k.size k.init) (global_history w key) (legal_at (λ k. global_value k.size k.init) plan.keys w.globals key k lead.globals at) here.1,
+      sections_of (replica k.size) (local_history w host key) (legal_in (λ k. replica k.size) plan.keys w.locals host key k lead.locals at) (finds_lock (replica k.size) (local_history w host key) (here.0 host)),
+      sections_of (global_value k.size k.init) (global_history w key) (legal_at (λ k. global_value k.size k.init) plan.keys w.globals key k lead.globals at) (finds_lock (global_value k.size k.init) (global_history w key) here.1),
     )
