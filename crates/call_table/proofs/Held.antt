@@ -103,7 +103,7 @@ module _ (hosts : ℕ) (fs : List Callable) (rs : List CallRecord) (ss : List (O
   more : (r : CallRecord) → IsHeld hosts (length fs) (length rs) r → IsHeld hosts (length fs) (length rs + 1) r
   more r k = let c = k.children in record { small = record { input = k.small.input; room = k.small.room }; host = k.host; output = k.output; function = k.function; children = omega arith }
 
-  pub table_push : (r : CallRecord) (s : Spare) → IsHeld hosts (length fs) (length rs) r → HasRoom r.room (channels_of fs r.function) s → length rs + 1 < 2 ^ 32 → IsTable hosts fs (rs ++ r ∷ []) (ss ++ Some s ∷ [])
+  pub table_push : (r : CallRecord) (s : Spare) → IsHeld hosts (length fs) (length rs) r → HasRoom r.room (channels_of fs r.function) s → length rs + 1 < 2 ^ 31 → IsTable hosts fs (rs ++ r ∷ []) (ss ++ Some s ∷ [])
   table_push r s k room few =
       let len = length_push rs r in
       record {

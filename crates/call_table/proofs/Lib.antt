@@ -1,8 +1,14 @@
 pub mod Child
+pub mod Counting
+pub mod Entries
 pub mod Finish
 pub mod Held
 pub mod Hosts
 pub mod Look
+pub mod Mine
+pub mod Orders
 pub mod Places
+pub mod Stable
+pub mod Submit
 pub mod Take
 pub mod Warm

@@ -79,7 +79,7 @@ child_there records parent child n e = at_first (is_child parent child) records 
 pub first_queued : (records : List CallRecord) (n : ℕ) → first (queued_calls records) ≡ Some n → passes_at (λ r. is_queued r.state) records n ≡ true
 first_queued records n e = at_first (λ r. is_queued r.state) records n e
 
-weaker : {A : Type 0} (test other : A → Bool) (xs : List A) (n : ℕ) → ((x : A) → test x ≡ true → other x ≡ true) → passes_at test xs n ≡ true → passes_at other xs n ≡ true
+pub weaker : {A : Type 0} (test other : A → Bool) (xs : List A) (n : ℕ) → ((x : A) → test x ≡ true → other x ≡ true) → passes_at test xs n ≡ true → passes_at other xs n ≡ true
 weaker test other [] n h e = e
 weaker test other (x ∷ xs) zero h e = h x e
 weaker test other (x ∷ xs) (suc n) h e = weaker test other xs n h e

@@ -1,4 +1,4 @@
--- The model of `CallTable`. This project's own.
+-- The model of `Store`. This project's own.
 use Rattle.std.specs.Prelude.{ℕ, ◌≡◌, ◌<◌, ◌≤◌, ◌^◌, true, List, [], ◌∷◌, Option, Some, None, All, length, unwrap_or, slice_get}
 use Rattle.faaslet_meaning.specs.declared.call.Callable.{Callable}
 use Rattle.faaslet_meaning.specs.declared.call.CallRecord.{CallRecord}
@@ -7,7 +7,7 @@ use Rattle.faaslet_meaning.specs.Table.{Table}
 use Rattle.call_table.specs.Held.{IsHeld, piece_limit}
 use Rattle.call_table.specs.Spare.{HasRoom}
 use Rattle.call_table.specs.declared.spare.Spare.{Spare}
-use Rattle.call_table.specs.declared.table.CallTable.TheInside.{Inside}
+use Rattle.call_table.specs.declared.store.Store.TheInside.{Inside}
 
 abbrev pub table_in : Inside → Table
 table_in t = record { hosts = t.hosts; functions = t.functions.items; records = t.records.items }
@@ -29,7 +29,7 @@ HaveSpares functions (r ∷ rs) [] = ⊥
 
 pub record IsTable (hosts : ℕ) (functions : List Callable) (records : List CallRecord) (spares : List (Option Spare)) : Type 0 where
   pub rooms : All (λ f. f.room ≤ piece_limit) functions
-  pub few : length records < 2 ^ 32
+  pub few : length records < 2 ^ 31
   pub each : All (IsHeld hosts (length functions) (length records)) records
   pub spare : HaveSpares functions records spares
 

@@ -3,6 +3,11 @@ pub mod Handed
 pub mod Held
 pub mod Inside
 pub mod Looked
+pub mod Made
+pub mod Makers
+pub mod Mine
 pub mod Parent
 pub mod Refused
+pub mod Session
+pub mod SessionInside
 pub mod Spare

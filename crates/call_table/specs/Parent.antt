@@ -4,7 +4,7 @@ use Rattle.faaslet_meaning.specs.declared.call.CallRecord.{CallRecord}
 use Rattle.faaslet_meaning.specs.Records.{host_of}
 use Rattle.faaslet_meaning.specs.Lists.{changed}
 use Rattle.faaslet_meaning.specs.Table.{Table, one_more_child, queued_record}
-use Rattle.call_table.specs.declared.table.Parent.{Parent}
+use Rattle.call_table.specs.declared.store.Parent.{Parent}
 
 pub record IsParent (t : Table) (p : Parent) : Type 0 where
   pub of : CallRecord

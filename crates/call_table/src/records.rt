@@ -4,6 +4,7 @@ ghost use Rattle.std.specs.Prelude.{◌≡◌, ◌<◌, ◌≤◌, ◌^◌, ◌+
 ghost use Rattle.faaslet_meaning.specs.Lists.{first, passes_at};
 ghost use Rattle.faaslet_meaning.specs.Records as said;
 ghost use Rattle.call_table.specs.Held.{IsSmall};
+ghost use Rattle.call_table.specs.Makers.{is_on};
 
 use faaslet_meaning::{CallRecord, CallState};
 
@@ -17,6 +18,15 @@ pub(crate) fn is_open(state: &CallState) -> bool
     ensures { result ≡ said.is_open state.now }
 {
     matches!(state, CallState::Taken { .. })
+}
+
+pub(crate) fn is_on(state: &CallState, bench: u32) -> bool
+    ensures { result ≡ is_on bench state.now }
+{
+    match state {
+        CallState::Taken { bench: on, .. } => *on == bench,
+        _ => false,
+    }
 }
 
 pub(crate) fn is_finished(state: &CallState) -> bool

@@ -1,23 +1,23 @@
 //! The call table.
 
-ghost use Rattle.std.specs.Prelude.{◌≡◌, ℕ, ◌&&◌, nat_lt, false, ◌+◌, ◌<◌, ◌≤◌, ◌^◌, ◌++◌, ◌∷◌, ◌==◌, [], All, IsTrue, IfOk, IfErr, IfSome, OnOk, OnErr, Some, length, filter, not, nat_le, slice_get, option_and_then, vec_capacity, vec_len};
+ghost use Rattle.std.specs.Prelude.{◌≡◌, ◌<◌, ◌≤◌, ◌^◌, ◌&&◌, ◌==◌, All, IsTrue, IfOk, IfErr, OnErr, Some, false, length, nat_le, nat_lt, slice_get};
 ghost use Rattle.faaslet_meaning.specs.Channels.{Reply as SpecReply};
-ghost use Rattle.faaslet_meaning.specs.Lists.{passes_at, changed};
+ghost use Rattle.faaslet_meaning.specs.Lists.{passes_at};
 ghost use Rattle.faaslet_meaning.specs.Records as said;
+ghost use Rattle.faaslet_meaning.specs.Spelling.{CodeFits};
 ghost use Rattle.faaslet_meaning.specs.Table as table;
-ghost use Rattle.call_table.specs.Did.{Did};
-ghost use Rattle.call_table.specs.Handed.{Handed, NextIs, ThisIs};
+ghost use Rattle.call_table.specs.Handed.{NextIs, ThisIs};
 ghost use Rattle.call_table.specs.Held.{piece_limit, IsHeld};
-ghost use Rattle.call_table.specs.Looked.{Looked};
-ghost use Rattle.call_table.specs.Parent.{IsParent, IsChildOf};
+ghost use Rattle.call_table.specs.Looked.{LookedAt};
+ghost use Rattle.call_table.specs.Made.{Made};
+ghost use Rattle.call_table.specs.Makers.{is_on};
 ghost use Rattle.call_table.specs.Refused.{Refused};
+ghost use Rattle.call_table.specs.Session.{empty_session, unfinished};
 
-use crate::jobs::{self, Job, Next, SubmitFault, Unfinished};
-use crate::loads::loads_of;
+use crate::jobs::{Job, Next, SubmitFault, Unfinished};
 use crate::records;
-use crate::spare::{Spare, filled};
-use faaslet_meaning::{Bytes, CallRecord, CallState, Callable, Outcome, Reply};
-use host_scheduler::place;
+use crate::store::Store;
+use faaslet_meaning::{CallRecord, Callable, Outcome, Reply};
 use std::alloc::{AllocError, Global};
 use std::marker::Model;
 
@@ -30,117 +30,129 @@ const BYTE_LIMIT: u64 = 2_097_152;
 /// The greatest depth of a call.
 const DEPTH_LIMIT: u32 = 8;
 
-/// The records of calls by their numbers, and what is known of each function.
+/// The records of all calls of a session, which may be kept in turns.
 #[derive(Drop)]
 pub struct CallTable {
-    alloc: Global,
-    hosts: u32,
-    functions: Vec<Callable>,
-    records: Vec<CallRecord>,
-    spares: Vec<Option<Spare>>,
+    store: Store,
+    workers: u32,
+    requests: u32,
 }
 
 impl Model for CallTable {
-    ghost use Rattle.faaslet_meaning.specs.Table.{Table};
+    ghost use Rattle.call_table.specs.Session.{SessionTable};
 
-    ghost Value = { Table };
+    ghost Value = { SessionTable };
 
-    ghost use Rattle.call_table.specs.Inside.{table_in, IsInside};
+    ghost use Rattle.call_table.specs.SessionInside.{session_in, HasRequests};
 
-    ghost view = { table_in };
+    ghost view = { session_in };
 
-    ghost invariant = { IsInside };
-}
-
-/// What a new child takes of its parent: the numbers of the parent and of its request, the parent's depth, the child's
-/// number, and the host at which the parent was taken.
-#[derive(Clone, Copy)]
-pub(crate) struct Parent {
-    pub(crate) call: u32,
-    pub(crate) request: u32,
-    pub(crate) depth: u32,
-    pub(crate) child: u32,
-    pub(crate) host: u32,
+    ghost invariant = { HasRequests };
 }
 
 impl CallTable {
-    /// A table without records, of so many hosts. The functions are numbered by their places.
-    pub fn new(alloc: Global, functions: &[Callable], hosts: u32) -> Result<CallTable, AllocError>
-        requires { All (λ f. f.room ≤ piece_limit) functions.now }
-        ensures { IfOk result (λ t. t ≡ table.empty_table hosts functions.now) }
+    /// A table without records, of so many hosts with so many workers each, to which so many requests will come. The
+    /// functions are numbered by their places.
+    pub fn new(
+        alloc: Global,
+        functions: &[Callable],
+        hosts: u32,
+        workers: u32,
+        requests: u32,
+    ) -> Result<CallTable, AllocError>
+        requires rooms { All (λ f. f.room ≤ piece_limit) functions.now }
+        requires requests { requests < 2 ^ 31 }
+        ensures { IfOk result (λ t. t ≡ empty_session hosts functions.now workers requests) }
     {
-        let functions = functions.to_vec(alloc)?;
+        let store = Store::new(alloc, functions, hosts)?;
         Ok(CallTable {
-            alloc,
-            hosts,
-            functions,
-            records: Vec::new(alloc),
-            spares: Vec::new(alloc),
+            store,
+            workers,
+            requests,
         })
     }
 
     pub fn hosts(&self) -> u32
-        ensures { result ≡ self.now.hosts }
+        ensures { result ≡ self.now.table.hosts }
     {
-        self.hosts
+        self.store.hosts()
+    }
+
+    /// How many workers each host has.
+    pub fn workers(&self) -> u32
+        ensures { result ≡ self.now.workers }
+    {
+        self.workers
+    }
+
+    /// How many requests there will be.
+    pub fn requests(&self) -> u32
+        ensures { result ≡ self.now.requests }
+    {
+        self.requests
     }
 
     /// How many functions are known.
     pub fn functions(&self) -> usize
-        ensures { result ≡ length self.now.functions }
+        ensures { result ≡ length self.now.table.functions }
     {
-        self.functions.len()
+        self.store.functions()
     }
 
     /// What is known of a function.
     pub fn callable(&self, function: u32) -> Callable
-        requires { function < length self.now.functions }
-        ensures { result ≡ table.callable self.now function }
+        requires { function < length self.now.table.functions }
+        ensures { result ≡ table.callable self.now.table function }
     {
-        self.functions[function as usize]
+        self.store.callable(function)
     }
 
     /// The number of records.
     pub fn calls(&self) -> u32
-        ensures { result ≡ length self.now.records }
+        ensures { result ≡ length self.now.table.records }
     {
-        self.records.len() as u32
+        self.store.calls()
     }
 
-    /// How many calls are not finished.
+    /// How many calls are not finished, with those of the requests that are still to come.
     pub fn unfinished(&self) -> u32
-        ensures { result ≡ length (filter (λ r. not (said.is_finished r.state)) self.now.records) }
+        ensures { result ≡ unfinished self.now }
     {
-        records::unfinished(&self.records) as u32
+        let records = self.store.records();
+        let to_come = self
+            .requests
+            .saturating_sub(records::requests(records) as u32);
+        records::unfinished(records) as u32 + to_come
     }
 
     /// Whether there is such a call, and it is taken and not finished.
     pub fn is_taken(&self, call: u32) -> bool
-        ensures { result ≡ passes_at (λ r. said.is_open r.state) self.now.records call }
+        ensures { result ≡ passes_at (λ r. said.is_open r.state) self.now.table.records call }
     {
-        match self.records.get(call as usize) {
-            Some(known) => records::is_open(&known.state),
-            None => false,
-        }
+        self.store.is_taken(call)
+    }
+
+    /// Whether there is such a call, and it is taken by this bench and not finished.
+    pub fn runs_on(&self, call: u32, bench: u32) -> bool
+        ensures { result ≡ passes_at (λ r. is_on bench r.state) self.now.table.records call }
+    {
+        self.store.runs_on(call, bench)
     }
 
     /// The number of the call that is this child of its parent.
     pub fn child_of(&self, call: u32, child: u32) -> Option<u32>
-        ensures { result ≡ said.child_of self.now.records call child }
+        ensures { result ≡ said.child_of self.now.table.records call child }
     {
-        match records::child_of(&self.records, call, child) {
-            Some(found) => Some(found as u32),
-            None => None,
-        }
+        self.store.child_of(call, child)
     }
 
     /// The record of a call.
     pub fn record_of(&self, call: u32) -> &CallRecord
-        requires { call < length self.now.records }
-        ensures there { slice_get self.now.records call ≡ Some result.now }
-        ensures held { IsHeld self.now.hosts (length self.now.functions) (length self.now.records) result.now }
+        requires { call < length self.now.table.records }
+        ensures there { slice_get self.now.table.records call ≡ Some result.now }
+        ensures held { IsHeld self.now.table.hosts (length self.now.table.functions) (length self.now.table.records) result.now }
     {
-        &self.records[call as usize]
+        self.store.record_of(call)
     }
 
     /// Adds a request of the function that comes from a host, and answers the number of its call.
@@ -150,30 +162,30 @@ impl CallTable {
         host: u32,
         input: &[u8],
     ) -> Result<u32, AllocError>
-        requires function { function < length self.old.functions }
-        requires host { host < self.old.hosts }
+        requires function { function < length self.old.table.functions }
+        requires host { host < self.old.table.hosts }
         requires input { length input.now ≤ piece_limit }
-        ensures ok { IfOk result (λ call. Did self.old (table.submit_request function host input.now) self.new (SpecReply.number call)) }
+        ensures ok { IfOk result (λ call. Made self.old (table.submit_request function host input.now) self.new (SpecReply.number call)) }
         ensures want { OnErr result (self.new ≡ self.old) }
     {
-        let call = self.records.len() as u32;
-        let queued = self.queued_record(function, host, input)?;
-        self.push(queued)?;
+        let call = self.store.calls();
+        let queued = self.store.queued_record(function, host, input)?;
+        self.store.push(queued)?;
         Ok(call)
     }
 
     /// Adds a child of a call that is taken and not finished, and answers the child's number in its parent's order.
     pub fn submit(&mut self, parent: u32, function: u32, input: &[u8]) -> Result<u32, SubmitFault>
-        requires parent { IsTrue (passes_at (λ r. said.is_open r.state) self.old.records parent) }
-        requires function { function < length self.old.functions }
+        requires parent { IsTrue (passes_at (λ r. said.is_open r.state) self.old.table.records parent) }
+        requires function { function < length self.old.table.functions }
         requires input { length input.now ≤ piece_limit }
-        ensures ok { IfOk result (λ child. Did self.old (table.submit parent function input.now) self.new (SpecReply.child child)) }
+        ensures ok { IfOk result (λ child. Made self.old (table.submit parent function input.now) self.new (SpecReply.child child)) }
         ensures refused { IfErr result (λ fault. Refused self.old parent function input.now self.new fault) }
     {
-        let p = self.parent_of(parent);
-        let calls = records::calls_of(&self.records, p.request) as u32;
-        let bytes = records::bytes_of(&self.records, p.request);
-        let room = self.functions[function as usize].room;
+        let p = self.store.parent_of(parent);
+        let calls = records::calls_of(self.store.records(), p.request) as u32;
+        let bytes = records::bytes_of(self.store.records(), p.request);
+        let room = self.store.callable(function).room;
         if !has_room(
             calls,
             bytes + (input.len() as u64 + u64::from(room)),
@@ -185,7 +197,7 @@ impl CallTable {
                 depth: p.depth,
             });
         }
-        match self.push_child(p, function, input) {
+        match self.store.push_child(p, function, input) {
             Ok(()) => Ok(p.child),
             Err(_) => Err(SubmitFault::Want),
         }
@@ -193,26 +205,26 @@ impl CallTable {
 
     /// Takes the lowest call that is queued at the host, or else the lowest that is queued.
     pub fn take_next(&mut self, host: u32, bench: u32, input: &mut [u8]) -> Next
-        requires host { host < self.old.hosts }
+        requires host { host < self.old.table.hosts }
         requires buffer { piece_limit ≤ length input.old }
         ensures { NextIs self.old host bench self.new input.old input.new result }
     {
-        match records::next(&self.records, host) {
-            Some(call) => Next::Call(self.take(call as u32, host, bench, input)),
+        match records::next(self.store.records(), host) {
+            Some(call) => Next::Call(self.store.take(call as u32, host, bench, input)),
             None => Next::None {
-                unfinished: records::unfinished(&self.records) as u32,
+                unfinished: self.unfinished(),
             },
         }
     }
 
     /// Takes a call, if it is queued.
     pub fn take_this(&mut self, call: u32, host: u32, bench: u32, input: &mut [u8]) -> Option<Job>
-        requires host { host < self.old.hosts }
+        requires host { host < self.old.table.hosts }
         requires buffer { piece_limit ≤ length input.old }
         ensures { ThisIs self.old call host bench self.new input.old input.new result }
     {
-        if self.is_queued(call) {
-            Some(self.take(call, host, bench, input))
+        if self.store.is_queued(call) {
+            Some(self.store.take(call, host, bench, input))
         } else {
             None
         }
@@ -220,184 +232,33 @@ impl CallTable {
 
     /// Ends a call that is taken and not finished.
     pub fn finish(&mut self, call: u32, outcome: Outcome, used: u64, output: &[u8], counts: &[u64])
-        requires open { IsTrue (passes_at (λ r. said.is_open r.state) self.old.records call) }
-        requires output { IsTrue (passes_at (λ r. nat_le (length output.now) r.room) self.old.records call) }
-        requires counts { IsTrue (passes_at (λ r. length counts.now == (table.callable self.old r.function).channels) self.old.records call) }
-        ensures { Did self.old (table.finish call outcome used output.now counts.now) self.new SpecReply.done }
+        requires open { IsTrue (passes_at (λ r. said.is_open r.state) self.old.table.records call) }
+        requires output { IsTrue (passes_at (λ r. nat_le (length output.now) r.room) self.old.table.records call) }
+        requires counts { IsTrue (passes_at (λ r. length counts.now == (table.callable self.old.table r.function).channels) self.old.table.records call) }
+        ensures { Made self.old (table.finish call outcome used output.now counts.now) self.new SpecReply.done }
     {
-        let at = call as usize;
-        let Some(spare) = self.spares[at].take() else {
-            unreachable!();
-        };
-        let Spare {
-            output: bytes,
-            counts: numbers,
-        } = spare;
-        let known = &mut self.records[at];
-        let CallState::Taken { host, bench, order } = known.state else {
-            unreachable!();
-        };
-        known.state = CallState::Finished {
-            host,
-            bench,
-            order,
-            outcome,
-            used,
-            output: filled(bytes, output),
-            counts: filled(numbers, counts),
-        };
+        code_fits(&outcome);
+        self.store.finish(call, outcome, used, output, counts);
     }
 
     /// The outcome of a call and the length of its output, which goes to the front of the buffer.
     pub fn look(&self, call: u32, out: &mut [u8]) -> Result<Reply, Unfinished>
-        requires call { call < length self.now.records }
+        requires call { call < length self.now.table.records }
         requires buffer { piece_limit ≤ length out.old }
-        ensures finished { IfOk result (λ reply. Looked self.now call reply out.old out.new) }
-        ensures unfinished { OnErr result ((passes_at (λ r. said.is_finished r.state) self.now.records call ≡ false) × (out.new ≡ out.old)) }
+        ensures finished { IfOk result (λ reply. LookedAt self.now call reply out.old out.new) }
+        ensures unfinished { OnErr result ((passes_at (λ r. said.is_finished r.state) self.now.table.records call ≡ false) × (out.new ≡ out.old)) }
     {
-        match &self.records[call as usize].state {
-            CallState::Finished {
-                outcome,
-                output,
-                ..
-            } => {
-                let output = output.as_slice();
-                jobs::copied(output, out);
-                Ok(Reply::Finished {
-                    outcome: *outcome,
-                    len: output.len() as u32,
-                })
-            }
-            _ => Err(Unfinished),
-        }
-    }
-
-    fn is_queued(&self, call: u32) -> bool
-        ensures { result ≡ passes_at (λ r. said.is_queued r.state) self.now.records call }
-    {
-        match self.records.get(call as usize) {
-            Some(known) => records::is_queued(&known.state),
-            None => false,
-        }
-    }
-
-    fn parent_of(&self, call: u32) -> Parent
-        requires { IsTrue (passes_at (λ r. said.is_open r.state) self.now.records call) }
-        ensures call { result.call ≡ call }
-        ensures parent { IsParent self.now result }
-    {
-        let known = &self.records[call as usize];
-        let CallState::Taken { host, .. } = known.state else {
-            unreachable!();
-        };
-        Parent {
-            call,
-            request: known.request,
-            depth: known.depth,
-            child: known.children,
-            host,
-        }
-    }
-
-    /// A record of a new request.
-    fn queued_record(
-        &self,
-        function: u32,
-        from: u32,
-        input: &[u8],
-    ) -> Result<CallRecord, AllocError>
-        requires function { function < length self.now.functions }
-        requires from { from < self.now.hosts }
-        requires input { length input.now ≤ piece_limit }
-        ensures queued { IfOk result (λ r. r ≡ table.queued_record self.now function from input.now) }
-        ensures held { IfOk result (λ r. IsHeld self.now.hosts (length self.now.functions) (length self.now.records) r) }
-    {
-        let known = self.functions[function as usize];
-        let loads = loads_of(self.alloc, &self.records, self.hosts)?;
-        let input = input.to_vec(self.alloc)?;
-        Ok(CallRecord {
-            request: records::requests(&self.records) as u32,
-            parent: None,
-            child: 0,
-            depth: 1,
-            function,
-            input: Bytes::of(input),
-            room: known.room,
-            fuel: known.fuel,
-            from,
-            placed: place(&loads, function, from),
-            state: CallState::Queued,
-            children: 0,
-        })
-    }
-
-    /// Puts a record behind the others, with room for its output and its counts.
-    fn push(&mut self, queued: CallRecord) -> Result<(), AllocError>
-        requires queued { queued.state ≡ CallState.Queued }
-        requires held { IsHeld self.old.hosts (length self.old.functions) (length self.old.records) queued }
-        ensures ok { OnOk result (self.new ≡ record self.old { records = self.old.records ++ queued ∷ [] }) }
-        ensures few { OnOk result (length self.old.records + 1 < 2 ^ 32) }
-        ensures want { OnErr result (self.new ≡ self.old) }
-    {
-        let channels = self.functions[queued.function as usize].channels;
-        let spare = Spare::new(self.alloc, queued.room as usize, channels as usize)?;
-        make_room(&mut self.records, &mut self.spares)?;
-        self.records.push_reserved(queued);
-        self.spares.push_reserved(Some(spare));
-        Ok(())
-    }
-
-    fn push_child(&mut self, p: Parent, function: u32, input: &[u8]) -> Result<(), AllocError>
-        requires parent { IsParent self.old p }
-        requires depth { p.depth < 8 }
-        requires function { function < length self.old.functions }
-        requires input { length input.now ≤ piece_limit }
-        ensures ok { OnOk result (IsChildOf self.old p function input.now self.new) }
-        ensures want { OnErr result (self.new ≡ self.old) }
-    {
-        let queued = self.queued_record(function, p.host, input)?;
-        let child = CallRecord {
-            request: p.request,
-            parent: Some(p.call),
-            child: p.child,
-            depth: p.depth + 1,
-            ..queued
-        };
-        self.push(child)?;
-        self.records[p.call as usize].children = p.child + 1;
-        Ok(())
-    }
-
-    fn take(&mut self, call: u32, host: u32, bench: u32, input: &mut [u8]) -> Job
-        requires call { IsTrue (passes_at (λ r. said.is_queued r.state) self.old.records call) }
-        requires host { host < self.old.hosts }
-        requires buffer { piece_limit ≤ length input.old }
-        ensures taken { self.new ≡ table.taken self.old call host bench }
-        ensures handed { Handed self.old.records call result input.old input.new }
-    {
-        let at = call as usize;
-        let order = records::takes(&self.records) as u32;
-        let job = jobs::handed(call, &self.records[at], input);
-        self.records[at].state = CallState::Taken { host, bench, order };
-        job
+        self.store.look(call, out)
     }
 }
 
-/// Makes room for one more record.
-fn make_room(
-    records: &mut Vec<CallRecord>,
-    spares: &mut Vec<Option<Spare>>,
-) -> Result<(), AllocError>
-    ensures records { records.new.items ≡ records.old.items }
-    ensures spares { spares.new.items ≡ spares.old.items }
-    ensures ok { OnOk result ((vec_len records.new < vec_capacity records.new) × (vec_len spares.new < vec_capacity spares.new)) }
-    ensures few { OnOk result (length records.old.items + 1 < 2 ^ 32) }
+/// The result of a call is an i32, so that its Finish can be told from its spelling.
+fn code_fits(outcome: &Outcome)
+    ensures { CodeFits outcome.now }
 {
-    if records.len() >= u32::MAX as usize {
-        return Err(AllocError);
+    if let Outcome::Done(code) = outcome {
+        let _code = *code;
     }
-    records.reserve(1)?;
-    spares.reserve(1)
 }
 
 /// Whether a request of so many calls, whose bytes will be these, may have a child of a call of this depth.

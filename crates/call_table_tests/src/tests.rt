@@ -7,7 +7,7 @@ use faaslet_meaning::{Callable, Outcome, Reply};
 use std::alloc::{AllocError, Global};
 use std::test::Fail;
 
-/// A table of two hosts and one function.
+/// A table of one function and of two hosts with one worker each, to which one request will come.
 fn table(alloc: Global, room: u32) -> Result<CallTable, AllocError>
     requires { room ≤ 65536 }
 {
@@ -16,7 +16,7 @@ fn table(alloc: Global, room: u32) -> Result<CallTable, AllocError>
         room,
         channels: 1,
     };
-    CallTable::new(alloc, &[known], 2)
+    CallTable::new(alloc, &[known], 2, 1, 1)
 }
 
 /// The call of a request of function 0 that comes from host 0.
@@ -151,6 +151,20 @@ fn a_call_is_at_most_8_deep(rt: HostRuntime) -> Result<(), Fail> {
 }
 
 #[test]
+fn a_request_is_to_come(rt: HostRuntime) -> Result<(), Fail> {
+    let mut buffer = vec![in rt.alloc(); 0; 65_536]?;
+    let mut table = table(rt.alloc(), 0)?;
+    assert!(rt; table.workers() == 1 && table.requests() == 1);
+    assert!(rt; table.unfinished() == 1);
+    assert!(rt; is_idle(&mut table, 1, &mut buffer));
+    assert!(rt; request(&mut table, &[]) == Some(0));
+    assert!(rt; table.unfinished() == 1);
+    assert!(rt; request(&mut table, &[]) == Some(1));
+    assert!(rt; table.unfinished() == 2);
+    Ok(())
+}
+
+#[test]
 fn nothing_is_queued(rt: HostRuntime) -> Result<(), Fail> {
     let mut buffer = vec![in rt.alloc(); 0; 65_536]?;
     let mut table = table(rt.alloc(), 0)?;
@@ -158,6 +172,7 @@ fn nothing_is_queued(rt: HostRuntime) -> Result<(), Fail> {
     let job = taken(&mut table, &mut buffer).ok_or("a job")?;
     assert!(rt; is_first(&job));
     assert!(rt; begins(&buffer, &[1, 2, 0]));
+    assert!(rt; table.runs_on(0, 3) && !table.runs_on(0, 2));
     assert!(rt; is_idle(&mut table, 1, &mut buffer));
     Ok(())
 }

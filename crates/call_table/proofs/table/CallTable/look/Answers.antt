@@ -1,27 +1,20 @@
--- The record that was read is the call's.
-use Rattle.std.proofs.Common.{◌≡◌, ◌<◌, Some, false, length, slice_get, refl, ap, sym, subst, ◌∙◌}
-use Rattle.std.proofs.lemmas.Option.{slice_get_read}
-use Rattle.faaslet_meaning.specs.declared.call.CallState.TheVariants.{Finished}
-use Rattle.faaslet_meaning.specs.Lists.{passes_at}
-use Rattle.faaslet_meaning.specs.Records.{is_finished}
-use Rattle.faaslet_meaning.specs.Table.{Table}
-use Rattle.call_table.proofs.Look.{looked, not_finished}
-use Rattle.call_table.proofs.Places.{passes_so}
+-- A Look that is answered is an entry of the parent's bench.
+use Rattle.std.proofs.Common.{ℕ, List, Ok, Err, refl, subst}
+use Rattle.std.specs.Prelude.{Result, IfOk}
+use Rattle.faaslet_meaning.specs.declared.ask.Reply as coded
+use Rattle.faaslet_meaning.specs.Records.{told_of}
+use Rattle.faaslet_meaning.specs.Table.{look}
+use Rattle.call_table.specs.Looked.{Looked, LookedAt}
+use Rattle.call_table.specs.Session.{SessionTable}
+use Rattle.call_table.specs.SessionInside.{session_in}
+use Rattle.call_table.proofs.Entries.{made}
 use Rattle.call_table.proofs.table.CallTable.look.Goals as goal
 
-pub returns-in-Finished-clause-finished : goal.returns-in-Finished-clause-finished
-returns-in-Finished-clause-finished c =
-    let records = c.self.inside.records.items in
-    let inside : c.args.call < length records = subst (λ (t : Table). c.args.call < length t.records) (sym c.self.view_is) c.requires.call in
-    let there : slice_get records c.args.call ≡ Some c.index.result.now = slice_get_read records (length records) c.args.call c.index.result.now refl inside c.index.ensures in
-    let state = c.in-Finished.is ∙ ap (λ o. Finished c.in-Finished.host c.in-Finished.bench c.in-Finished.order c.in-Finished.outcome c.in-Finished.used o c.in-Finished.counts) (sym c.as_slice-output.ensures) in
-    looked c.args.self.now c.args.call c.index.result.now c.in-Finished.host c.in-Finished.bench c.in-Finished.order c.in-Finished.outcome c.in-Finished.used c.as_slice-output.result.now c.in-Finished.counts c.args.out.now c.copied.new.buffer
-    (subst (λ (t : Table). slice_get t.records c.args.call ≡ Some c.index.result.now) c.self.view_is there) state c.copied.ensures
+entered : {E : Type 0} (s : SessionTable) (call : ℕ) (before after : List ℕ) (r : Result coded.Reply E) → IfOk r (λ reply. Looked s.table call reply before after) → IfOk r (λ reply. LookedAt s call reply before after)
+entered s call before after (Ok reply) l = record { looked = l; made = λ parent child opened found. made s s (look parent child) (told_of l.of.state) (l.did parent child opened found) refl refl tt }
+entered s call before after (Err e) l = tt
 
-pub returns-in_default : goal.returns-in_default
-returns-in_default c =
-    let records = c.self.inside.records.items in
-    let inside : c.args.call < length records = subst (λ (t : Table). c.args.call < length t.records) (sym c.self.view_is) c.requires.call in
-    let there : slice_get records c.args.call ≡ Some c.index.result.now = slice_get_read records (length records) c.args.call c.index.result.now refl inside c.index.ensures in
-    let no : passes_at (λ r. is_finished r.state) records c.args.call ≡ false = passes_so (λ r. is_finished r.state) records c.args.call c.index.result.now there ∙ not_finished c.index.result.now.state c.in_default.not-Finished in
-    record { finished = tt; unfinished = (subst (λ (t : Table). passes_at (λ r. is_finished r.state) t.records c.args.call ≡ false) c.self.view_is no, refl) }
+pub returns-clause-finished : goal.returns-clause-finished
+returns-clause-finished c =
+    subst (λ (s : SessionTable). IfOk c.look.result (λ reply. LookedAt s c.args.call reply c.args.out.now c.look.new.out)) c.self.view_is
+    (entered (session_in c.self.inside) c.args.call c.args.out.now c.look.new.out c.look.result c.look.ensures.finished)

@@ -7,7 +7,7 @@ use Rattle.faaslet_meaning.specs.Lists.{changed}
 use Rattle.faaslet_meaning.specs.Table.{Table, one_more_child}
 use Rattle.call_table.proofs.Child.{child_made}
 use Rattle.call_table.proofs.Held.{table_child}
-use Rattle.call_table.proofs.table.CallTable.push_child.Goals as goal
+use Rattle.call_table.proofs.store.Store.push_child.Goals as goal
 
 pub push-requires-clause-held : goal.push-requires-clause-held
 push-requires-clause-held c =

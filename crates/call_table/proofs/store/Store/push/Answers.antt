@@ -7,7 +7,7 @@ use Rattle.call_table.specs.Held.{IsHeld}
 use Rattle.call_table.specs.Inside.{channels_of}
 use Rattle.call_table.specs.Spare.{HasRoom}
 use Rattle.call_table.proofs.Held.{table_push}
-use Rattle.call_table.proofs.table.CallTable.push.Goals as goal
+use Rattle.call_table.proofs.store.Store.push.Goals as goal
 
 pub invariant_of-self-2 : goal.invariant_of-self-2
 invariant_of-self-2 c =

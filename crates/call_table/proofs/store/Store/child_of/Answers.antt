@@ -2,7 +2,7 @@
 use Rattle.std.proofs.Common.{◌≡◌, ◌<◌, length, Some, ap, sym, ◌∙◌, arith}
 use Rattle.faaslet_meaning.specs.Records.{is_child, child_of}
 use Rattle.call_table.proofs.Places.{child_there, passes_there}
-use Rattle.call_table.proofs.table.CallTable.child_of.Goals as goal
+use Rattle.call_table.proofs.store.Store.child_of.Goals as goal
 
 pub overflow_cast-result : goal.overflow_cast-result
 overflow_cast-result c =

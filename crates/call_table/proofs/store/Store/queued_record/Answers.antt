@@ -10,7 +10,7 @@ use Rattle.faaslet_meaning.specs.Table.{Table, place_of, queued_record, lengths}
 use Rattle.call_table.specs.Held.{piece_limit}
 use Rattle.call_table.specs.Inside.{table_in}
 use Rattle.call_table.proofs.Hosts.{lengths_len, warm_fit, record_made, known_so}
-use Rattle.call_table.proofs.table.CallTable.queued_record.Goals as goal
+use Rattle.call_table.proofs.store.Store.queued_record.Goals as goal
 
 pub place-requires-clause-from : goal.place-requires-clause-from
 place-requires-clause-from c =

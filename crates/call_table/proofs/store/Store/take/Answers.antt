@@ -8,7 +8,7 @@ use Rattle.call_table.specs.Inside.{table_in}
 use Rattle.call_table.proofs.Held.{table_taken}
 use Rattle.call_table.proofs.Places.{read_at}
 use Rattle.call_table.proofs.Take.{taken_so}
-use Rattle.call_table.proofs.table.CallTable.take.Goals as goal
+use Rattle.call_table.proofs.store.Store.take.Goals as goal
 
 pub invariant_of-self : goal.invariant_of-self
 invariant_of-self c =

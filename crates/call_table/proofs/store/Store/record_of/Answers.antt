@@ -4,7 +4,7 @@ use Rattle.std.proofs.lemmas.Option.{slice_get_read}
 use Rattle.faaslet_meaning.specs.Table.{Table}
 use Rattle.call_table.specs.Held.{IsHeld}
 use Rattle.call_table.proofs.Held.{held_at}
-use Rattle.call_table.proofs.table.CallTable.record_of.Goals as goal
+use Rattle.call_table.proofs.store.Store.record_of.Goals as goal
 
 pub returns-clause-held : goal.returns-clause-held
 returns-clause-held c =

@@ -1,0 +1,5 @@
+use Rattle.call_table.proofs.Mine.{others_leave}
+use Rattle.call_table.proofs.kept.others_leave_a_bench.Goals as goal
+
+pub returns : goal.returns
+returns c = others_leave
