@@ -36,6 +36,12 @@ count_more test [] n x y e f t = let no : ⊥ = cc in absurd no
 count_more test (z ∷ xs) zero x y e f t = one test y xs true t ∙ ap suc (sym (one test z xs false (ap test (same_Some z x e) ∙ f)))
 count_more test (z ∷ xs) (suc n) x y e f t = tail_more test z xs (slice_set xs n y) (test z) refl (count_more test xs n x y e f t)
 
+-- one that passes no more, and did
+pub count_less : {A : Type 0} (test : A → Bool) (xs : List A) (n : ℕ) (x y : A) → slice_get xs n ≡ Some x → test x ≡ true → test y ≡ false → count test xs ≡ suc (count test (slice_set xs n y))
+count_less test [] n x y e t f = let no : ⊥ = cc in absurd no
+count_less test (z ∷ xs) zero x y e t f = one test z xs true (ap test (same_Some z x e) ∙ t) ∙ ap suc (sym (one test y xs false f))
+count_less test (z ∷ xs) (suc n) x y e t f = tail_more test z (slice_set xs n y) xs (test z) refl (count_less test xs n x y e t f)
+
 pub count_push : {A : Type 0} (test : A → Bool) (xs : List A) (x : A) (b : Bool) → test x ≡ b → count test (xs ++ x ∷ []) ≡ cond b (suc (count test xs)) (count test xs)
 count_push test xs x true e = ap length (filter-append test xs (x ∷ [])) ∙ (rw e (let l = length-append (filter test xs) (x ∷ []) in omega arith))
 count_push test xs x false e = ap length (filter-append test xs (x ∷ [])) ∙ (rw e (let l = length-append (filter test xs) [] in omega arith))

@@ -75,7 +75,7 @@ module _ (hosts : ℕ) (fs : List Callable) (rs : List CallRecord) (ss : List (O
   pub table_taken : (n : ℕ) (r : CallRecord) (host bench order : ℕ) → slice_get rs n ≡ Some r → is_queued r.state ≡ true → host < hosts → IsTable hosts fs (slice_set rs n (record r { state = Taken host bench order })) ss
   table_taken n r host bench order e q h =
       let k = held_at n r e in
-      set_so n (record r { state = Taken host bench order }) ss (record { small = record { input = k.small.input; room = k.small.room }; host = h; output = tt; function = k.function; children = k.children })
+      set_so n (record r { state = Taken host bench order }) ss (record { small = record { input = k.small.input; room = k.small.room }; host = h; output = tt; function = k.function; children = k.children; depth = k.depth })
       (spares_stay fs rs ss n r (record r { state = Taken host bench order }) t.spare e by)
     where
       by : (o : Option Spare) → HasSpare fs r o → HasSpare fs (record r { state = Taken host bench order }) o
@@ -87,13 +87,13 @@ module _ (hosts : ℕ) (fs : List Callable) (rs : List CallRecord) (ss : List (O
   table_finished n r host bench order outcome used output counts e is short =
       let k = held_at n r e in
       let new : CallRecord = record r { state = Finished host bench order outcome used output counts } in
-      set_so n new (slice_set ss n None) (record { small = record { input = k.small.input; room = k.small.room }; host = rw is at k.host; output = short; function = k.function; children = k.children })
+      set_so n new (slice_set ss n None) (record { small = record { input = k.small.input; room = k.small.room }; host = rw is at k.host; output = short; function = k.function; children = k.children; depth = k.depth })
       (spares_change fs rs ss n new None t.spare refl)
 
   pub table_child : (n : ℕ) (r : CallRecord) (k : ℕ) → slice_get rs n ≡ Some r → k ≤ length rs → IsTable hosts fs (slice_set rs n (record r { children = k })) ss
   table_child n r c e few =
       let k = held_at n r e in
-      set_so n (record r { children = c }) ss (record { small = record { input = k.small.input; room = k.small.room }; host = k.host; output = k.output; function = k.function; children = few })
+      set_so n (record r { children = c }) ss (record { small = record { input = k.small.input; room = k.small.room }; host = k.host; output = k.output; function = k.function; children = few; depth = k.depth })
       (spares_stay fs rs ss n r (record r { children = c }) t.spare e by)
     where
       by : (o : Option Spare) → HasSpare fs r o → HasSpare fs (record r { children = c }) o
@@ -101,7 +101,7 @@ module _ (hosts : ℕ) (fs : List Callable) (rs : List CallRecord) (ss : List (O
       by (Some s) f = f
 
   more : (r : CallRecord) → IsHeld hosts (length fs) (length rs) r → IsHeld hosts (length fs) (length rs + 1) r
-  more r k = let c = k.children in record { small = record { input = k.small.input; room = k.small.room }; host = k.host; output = k.output; function = k.function; children = omega arith }
+  more r k = let c = k.children in record { small = record { input = k.small.input; room = k.small.room }; host = k.host; output = k.output; function = k.function; children = omega arith; depth = k.depth }
 
   pub table_push : (r : CallRecord) (s : Spare) → IsHeld hosts (length fs) (length rs) r → HasRoom r.room (channels_of fs r.function) s → length rs + 1 < 2 ^ 31 → IsTable hosts fs (rs ++ r ∷ []) (ss ++ Some s ∷ [])
   table_push r s k room few =

@@ -2,12 +2,15 @@ pub mod Child
 pub mod Counting
 pub mod Entries
 pub mod Finish
+pub mod Fronts
 pub mod Held
+pub mod Index
 pub mod Hosts
 pub mod Look
 pub mod Mine
 pub mod Orders
 pub mod Places
+pub mod Counts
 pub mod Stable
 pub mod Submit
 pub mod Take

@@ -28,3 +28,4 @@ pub record IsHeld (hosts functions records : ℕ) (r : CallRecord) : Type 0 wher
   pub output : IsWithin r.room r.state
   pub function : r.function < functions
   pub children : r.children ≤ records
+  pub depth : 0 < r.depth

@@ -1,5 +1,6 @@
 pub mod Did
 pub mod Handed
+pub mod Heads
 pub mod Held
 pub mod Inside
 pub mod Looked
@@ -7,6 +8,7 @@ pub mod Made
 pub mod Makers
 pub mod Mine
 pub mod Parent
+pub mod Progress
 pub mod Refused
 pub mod Session
 pub mod SessionInside

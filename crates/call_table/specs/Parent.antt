@@ -15,6 +15,7 @@ pub record IsParent (t : Table) (p : Parent) : Type 0 where
   pub host_so : p.host ≡ unwrap_or (host_of of.state) 0
   pub host_fits : p.host < t.hosts
   pub child_fits : p.child ≤ length t.records
+  pub deep : 0 < p.depth
 
 -- the parent has one child more, which stands behind all records
 abbrev pub IsChildOf : Table → Parent → ℕ → List ℕ → Table → Type 0

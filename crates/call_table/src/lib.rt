@@ -1,9 +1,11 @@
 //! The records of all calls of a session: who is queued, taken and finished.
 #![tactic(auto)]
 
+mod heads;
 mod jobs;
 mod kept;
 mod loads;
+mod progress;
 mod records;
 mod spare;
 mod store;

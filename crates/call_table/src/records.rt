@@ -44,42 +44,6 @@ fn is_child(known: &CallRecord, parent: u32, child: u32) -> bool
     }
 }
 
-/// The lowest call that is queued at a host.
-fn queued_at(records: &[CallRecord], host: u32) -> Option<usize>
-    ensures { result ≡ first (said.queue records.now host) }
-{
-    for (call, r) in records.iter().enumerate() {
-        if is_queued(&r.state) && r.placed == host {
-            return Some(call);
-        }
-    }
-    None
-}
-
-/// The lowest call that is queued at any host.
-fn queued_anywhere(records: &[CallRecord]) -> Option<usize>
-    ensures { result ≡ first (said.queued_calls records.now) }
-{
-    for (call, r) in records.iter().enumerate() {
-        if is_queued(&r.state) {
-            return Some(call);
-        }
-    }
-    None
-}
-
-/// The call that a host takes next.
-pub(crate) fn next(records: &[CallRecord], host: u32) -> Option<usize>
-    ensures first { result ≡ first (said.queue records.now host ++ said.queued_calls records.now) }
-    ensures queued { IfSome result (λ call. IsTrue (passes_at (λ r. said.is_queued r.state) records.now call)) }
-    ensures none { IfNone result (said.queued_calls records.now ≡ []) }
-{
-    match queued_at(records, host) {
-        Some(call) => Some(call),
-        None => queued_anywhere(records),
-    }
-}
-
 pub(crate) fn child_of(records: &[CallRecord], parent: u32, child: u32) -> Option<usize>
     ensures { result ≡ said.child_of records.now parent child }
 {
@@ -89,21 +53,6 @@ pub(crate) fn child_of(records: &[CallRecord], parent: u32, child: u32) -> Optio
         }
     }
     None
-}
-
-/// How many calls were taken so far.
-pub(crate) fn takes(records: &[CallRecord]) -> usize
-    ensures count { result ≡ said.takes records.now }
-    ensures few { result ≤ length records.now }
-{
-    records.iter().filter(|r| !is_queued(&r.state)).count()
-}
-
-pub(crate) fn unfinished(records: &[CallRecord]) -> usize
-    ensures count { result ≡ length (filter (λ r. not (said.is_finished r.state)) records.now) }
-    ensures few { result ≤ length records.now }
-{
-    records.iter().filter(|r| !is_finished(&r.state)).count()
 }
 
 pub(crate) fn requests(records: &[CallRecord]) -> usize

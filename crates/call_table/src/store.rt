@@ -299,6 +299,7 @@ impl Store {
         requires function { function < length self.old.functions }
         requires input { length input.now ≤ piece_limit }
         ensures ok { OnOk result (IsChildOf self.old p function input.now self.new) }
+        ensures few { OnOk result (length self.old.records + 1 < 2 ^ 31) }
         ensures want { OnErr result (self.new ≡ self.old) }
     {
         let queued = self.queued_record(function, p.host, input)?;
@@ -314,7 +315,15 @@ impl Store {
         Ok(())
     }
 
-    pub(crate) fn take(&mut self, call: u32, host: u32, bench: u32, input: &mut [u8]) -> Job
+    pub(crate) fn take(
+        &mut self,
+        call: u32,
+        host: u32,
+        bench: u32,
+        order: u32,
+        input: &mut [u8],
+    ) -> Job
+        requires order { order ≡ said.takes self.old.records }
         requires call { IsTrue (passes_at (λ r. said.is_queued r.state) self.old.records call) }
         requires host { host < self.old.hosts }
         requires buffer { piece_limit ≤ length input.old }
@@ -322,7 +331,6 @@ impl Store {
         ensures handed { Handed self.old.records call result input.old input.new }
     {
         let at = call as usize;
-        let order = records::takes(&self.records) as u32;
         let job = jobs::handed(call, &self.records[at], input);
         self.records[at].state = CallState::Taken { host, bench, order };
         job

@@ -1,22 +1,25 @@
 //! The call table.
 
-ghost use Rattle.std.specs.Prelude.{◌≡◌, ◌<◌, ◌≤◌, ◌^◌, ◌&&◌, ◌==◌, All, IsTrue, IfOk, IfErr, OnErr, Some, false, length, nat_le, nat_lt, slice_get};
+ghost use Rattle.std.specs.Prelude.{◌≡◌, ◌<◌, ◌≤◌, ◌^◌, ◌++◌, ◌&&◌, ◌==◌, All, IsTrue, IfOk, IfErr, OnOk, OnErr, Some, false, length, nat_le, nat_lt, slice_get};
 ghost use Rattle.faaslet_meaning.specs.Channels.{Reply as SpecReply};
-ghost use Rattle.faaslet_meaning.specs.Lists.{passes_at};
+ghost use Rattle.faaslet_meaning.specs.Lists.{first, passes_at};
 ghost use Rattle.faaslet_meaning.specs.Records as said;
 ghost use Rattle.faaslet_meaning.specs.Spelling.{CodeFits};
 ghost use Rattle.faaslet_meaning.specs.Table as table;
-ghost use Rattle.call_table.specs.Handed.{NextIs, ThisIs};
+ghost use Rattle.call_table.specs.Handed.{Handed, NextIs, ThisIs};
 ghost use Rattle.call_table.specs.Held.{piece_limit, IsHeld};
 ghost use Rattle.call_table.specs.Looked.{LookedAt};
 ghost use Rattle.call_table.specs.Made.{Made};
 ghost use Rattle.call_table.specs.Makers.{is_on};
+ghost use Rattle.call_table.specs.Parent.{IsParent, IsChildOf};
 ghost use Rattle.call_table.specs.Refused.{Refused};
 ghost use Rattle.call_table.specs.Session.{empty_session, unfinished};
 
+use crate::heads::Heads;
 use crate::jobs::{Job, Next, SubmitFault, Unfinished};
+use crate::progress::Progress;
 use crate::records;
-use crate::store::Store;
+use crate::store::{Parent, Store};
 use faaslet_meaning::{CallRecord, Callable, Outcome, Reply};
 use std::alloc::{AllocError, Global};
 use std::marker::Model;
@@ -34,6 +37,8 @@ const DEPTH_LIMIT: u32 = 8;
 #[derive(Drop)]
 pub struct CallTable {
     store: Store,
+    progress: Progress,
+    heads: Heads,
     workers: u32,
     requests: u32,
 }
@@ -43,11 +48,11 @@ impl Model for CallTable {
 
     ghost Value = { SessionTable };
 
-    ghost use Rattle.call_table.specs.SessionInside.{session_in, HasRequests};
+    ghost use Rattle.call_table.specs.SessionInside.{session_in, IsSession};
 
     ghost view = { session_in };
 
-    ghost invariant = { HasRequests };
+    ghost invariant = { IsSession };
 }
 
 impl CallTable {
@@ -65,8 +70,11 @@ impl CallTable {
         ensures { IfOk result (λ t. t ≡ empty_session hosts functions.now workers requests) }
     {
         let store = Store::new(alloc, functions, hosts)?;
+        let heads = Heads::new(alloc, hosts)?;
         Ok(CallTable {
             store,
+            progress: Progress::new(),
+            heads,
             workers,
             requests,
         })
@@ -118,11 +126,7 @@ impl CallTable {
     pub fn unfinished(&self) -> u32
         ensures { result ≡ unfinished self.now }
     {
-        let records = self.store.records();
-        let to_come = self
-            .requests
-            .saturating_sub(records::requests(records) as u32);
-        records::unfinished(records) as u32 + to_come
+        self.progress.unfinished + self.requests.saturating_sub(self.progress.came)
     }
 
     /// Whether there is such a call, and it is taken and not finished.
@@ -171,6 +175,7 @@ impl CallTable {
         let call = self.store.calls();
         let queued = self.store.queued_record(function, host, input)?;
         self.store.push(queued)?;
+        self.progress.add_request();
         Ok(call)
     }
 
@@ -197,7 +202,7 @@ impl CallTable {
                 depth: p.depth,
             });
         }
-        match self.store.push_child(p, function, input) {
+        match self.add_child(p, function, input) {
             Ok(()) => Ok(p.child),
             Err(_) => Err(SubmitFault::Want),
         }
@@ -209,8 +214,8 @@ impl CallTable {
         requires buffer { piece_limit ≤ length input.old }
         ensures { NextIs self.old host bench self.new input.old input.new result }
     {
-        match records::next(self.store.records(), host) {
-            Some(call) => Next::Call(self.store.take(call as u32, host, bench, input)),
+        match self.next(host) {
+            Some(call) => Next::Call(self.take(call, host, bench, input)),
             None => Next::None {
                 unfinished: self.unfinished(),
             },
@@ -224,7 +229,7 @@ impl CallTable {
         ensures { ThisIs self.old call host bench self.new input.old input.new result }
     {
         if self.store.is_queued(call) {
-            Some(self.store.take(call, host, bench, input))
+            Some(self.take(call, host, bench, input))
         } else {
             None
         }
@@ -239,6 +244,7 @@ impl CallTable {
     {
         code_fits(&outcome);
         self.store.finish(call, outcome, used, output, counts);
+        self.progress.finish();
     }
 
     /// The outcome of a call and the length of its output, which goes to the front of the buffer.
@@ -249,6 +255,45 @@ impl CallTable {
         ensures unfinished { OnErr result ((passes_at (λ r. said.is_finished r.state) self.now.table.records call ≡ false) × (out.new ≡ out.old)) }
     {
         self.store.look(call, out)
+    }
+
+    /// Adds a child for which the limits have room.
+    fn add_child(&mut self, p: Parent, function: u32, input: &[u8]) -> Result<(), AllocError>
+        requires parent { IsParent self.old.table p }
+        requires depth { p.depth < 8 }
+        requires function { function < length self.old.table.functions }
+        requires input { length input.now ≤ piece_limit }
+        ensures ok { OnOk result (IsChildOf self.old.table p function input.now self.new.table) }
+        ensures rest { (self.new.workers ≡ self.old.workers) × (self.new.requests ≡ self.old.requests) }
+        ensures want { OnErr result (self.new ≡ self.old) }
+    {
+        self.store.push_child(p, function, input)?;
+        self.progress.add_child();
+        Ok(())
+    }
+
+    /// The call that a host takes next.
+    fn next(&mut self, host: u32) -> Option<u32>
+        requires host { host < self.old.table.hosts }
+        ensures same { self.new ≡ self.old }
+        ensures first { result ≡ first (said.queue self.old.table.records host ++ said.queued_calls self.old.table.records) }
+    {
+        self.heads.next(self.store.records(), host)
+    }
+
+    /// Takes a call that is queued.
+    fn take(&mut self, call: u32, host: u32, bench: u32, input: &mut [u8]) -> Job
+        requires call { IsTrue (passes_at (λ r. said.is_queued r.state) self.old.table.records call) }
+        requires host { host < self.old.table.hosts }
+        requires buffer { piece_limit ≤ length input.old }
+        ensures taken { self.new ≡ record self.old { table = table.taken self.old.table call host bench } }
+        ensures handed { Handed self.old.table.records call result input.old input.new }
+    {
+        let job = self
+            .store
+            .take(call, host, bench, self.progress.taken, input);
+        self.progress.take();
+        job
     }
 }
 

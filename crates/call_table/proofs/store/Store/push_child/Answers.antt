@@ -12,7 +12,7 @@ use Rattle.call_table.proofs.store.Store.push_child.Goals as goal
 pub push-requires-clause-held : goal.push-requires-clause-held
 push-requires-clause-held c =
     let h = c.in_ok-queued.ensures.held in
-    record { small = record { input = h.small.input; room = h.small.room }; host = h.host; output = h.output; function = h.function; children = h.children }
+    record { small = record { input = h.small.input; room = h.small.room }; host = h.host; output = h.output; function = h.function; children = h.children; depth = omega arith }
 
 pub index_mut-requires : goal.index_mut-requires
 index_mut-requires c =

@@ -72,4 +72,5 @@ returns-clause-held c =
       output = tt;
       function = c.requires.function;
       children = omega arith;
+      depth = omega arith;
     }

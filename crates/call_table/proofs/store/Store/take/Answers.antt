@@ -16,15 +16,15 @@ invariant_of-self c =
     let queued : passes_at (λ r. is_queued r.state) records c.args.call ≡ true = subst (λ (t : Table). passes_at (λ r. is_queued r.state) t.records c.args.call ≡ true) (sym c.self.view_is) c.requires.call in
     let host : c.args.host < c.self.inside.hosts = subst (λ (t : Table). c.args.host < t.hosts) (sym c.self.view_is) c.requires.host in
     let read = read_at (λ r. is_queued r.state) records c.args.call c.index_mut.result.now queued c.index_mut.ensures.value in
-    table_taken c.self.inside.hosts c.self.inside.functions.items records c.self.inside.spares.items c.self.invariant c.args.call c.index_mut.result.now c.args.host c.args.bench c.takes-order.result read.there read.passes host
+    table_taken c.self.inside.hosts c.self.inside.functions.items records c.self.inside.spares.items c.self.invariant c.args.call c.index_mut.result.now c.args.host c.args.bench c.args.order read.there read.passes host
 
 pub returns-clause-taken : goal.returns-clause-taken
 returns-clause-taken c =
     let records = c.self.inside.records.items in
     let queued : passes_at (λ r. is_queued r.state) records c.args.call ≡ true = subst (λ (t : Table). passes_at (λ r. is_queued r.state) t.records c.args.call ≡ true) (sym c.self.view_is) c.requires.call in
     let read = read_at (λ r. is_queued r.state) records c.args.call c.index_mut.result.now queued c.index_mut.ensures.value in
-    let order : c.takes-order.result ≡ takes records = c.takes-order.ensures.count ∙ ap takes c.deref.ensures.value in
-    taken_so (table_in c.self.inside) c.args.call c.args.host c.args.bench c.takes-order.result c.index_mut.result.now read.there order
+    let order : c.args.order ≡ takes records = subst (λ (t : Table). c.args.order ≡ takes t.records) (sym c.self.view_is) c.requires.order in
+    taken_so (table_in c.self.inside) c.args.call c.args.host c.args.bench c.args.order c.index_mut.result.now read.there order
     ∙ ap (λ (t : Table). taken t c.args.call c.args.host c.args.bench) c.self.view_is
 
 pub returns-clause-handed : goal.returns-clause-handed

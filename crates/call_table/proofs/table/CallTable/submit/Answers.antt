@@ -5,6 +5,8 @@ use Rattle.faaslet_meaning.specs.Lists.{passes_at}
 use Rattle.faaslet_meaning.specs.declared.call.Callable.{Callable}
 use Rattle.faaslet_meaning.specs.Records.{is_open, calls_of, bytes_of}
 use Rattle.faaslet_meaning.specs.Table.{TableOperation, submit, has_room}
+use Rattle.call_table.specs.Did.{Did}
+use Rattle.call_table.specs.Parent.{IsChildOf}
 use Rattle.call_table.specs.Made.{Made}
 use Rattle.call_table.specs.Refused.{IsFull}
 use Rattle.call_table.specs.Session.{SessionTable}
@@ -12,7 +14,6 @@ use Rattle.call_table.specs.SessionInside.{session_in}
 use Rattle.call_table.proofs.Entries.{made}
 use Rattle.call_table.proofs.Submit.{child_did, full_did, room_so, parent_there}
 use Rattle.call_table.proofs.table.CallTable.submit.Goals as goal
-use Rattle.call_table.proofs.table.CallTable.submit.Goals.{in-Ok, in-Err}
 
 pub returns-then-not-has_room-clause-refused : goal.returns-then-not-has_room-clause-refused
 returns-then-not-has_room-clause-refused c =
@@ -40,9 +41,9 @@ returns-then-not-has_room-clause-refused c =
     } in
     subst (λ (s : SessionTable). IsFull s c.args.parent c.args.function c.args.input.now s c.calls_of-calls.result c.bytes_of-bytes.result p.depth) c.self.view_is full
 
-pub returns-clause-ok : goal.returns-clause-ok
-returns-clause-ok c =
-    let old = session_in c.self.inside in
+pub returns-in-Ok-clause-ok : goal.returns-in-Ok-clause-ok
+returns-in-Ok-clause-ok c =
+    let now = c.args.self.now in
     let t = c.self.inside.store in
     let p = c.parent_of-p.result in
     let of = c.parent_of-p.ensures.parent in
@@ -54,11 +55,7 @@ returns-clause-ok c =
     let room = c.from.ensures ∙ ap (λ (k : Callable). k.room) c.callable-room.ensures in
     let some : has_room t of.of c.args.function c.args.input.now ≡ true =
     sym (room_so t p c.args.parent c.args.function c.args.input.now of same opened c.calls_of-calls.result c.bytes_of-bytes.result (length c.args.input.now) c.from.result calls bytes refl room) ∙ sym c.has_room.ensures ∙ c.if-not-has_room.false in
-    let new : SessionTable = record old { table = c.push_child.new.self } in
-    elim c.match-push_child.branch [
-      | in-Ok w ↦
-          let child = child_did t p c.args.parent c.args.function c.args.input.now of same opened c.push_child.new.self some w.in-Ok.ensures.ok in
-          let entry = subst (λ (s : SessionTable). Made s o new (Reply.child p.child)) c.self.view_is (made old new o (Reply.child p.child) child refl refl tt) in
-          rw w.result-is entry
-      | in-Err w ↦ rw w.result-is tt
-    ]
+    let new = c.add_child.new.self in
+    let is : IsChildOf t p c.args.function c.args.input.now new.table = subst (λ (s : SessionTable). IsChildOf s.table p c.args.function c.args.input.now new.table) (sym c.self.view_is) c.in-Ok.ensures.ok in
+    let did = child_did t p c.args.parent c.args.function c.args.input.now of same opened new.table some is in
+    made now new o (Reply.child p.child) (subst (λ (s : SessionTable). Did s.table o new.table (Reply.child p.child)) c.self.view_is did) c.add_child.ensures.rest.0 c.add_child.ensures.rest.1 tt

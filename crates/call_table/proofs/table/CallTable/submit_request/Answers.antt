@@ -1,12 +1,16 @@
 -- The record behind the others is a request's, and an entry of the table.
-use Rattle.std.proofs.Common.{◌++◌, ◌∷◌, [], refl, subst, ap, ◌∙◌}
+use Rattle.std.proofs.Common.{◌≡◌, suc, ◌+◌, cond, true, length, sym, arith, ◌++◌, ◌∷◌, [], refl, subst, ap, ◌∙◌}
 use Rattle.faaslet_meaning.specs.declared.call.CallRecord.{CallRecord}
 use Rattle.faaslet_meaning.specs.Channels.{Reply}
-use Rattle.faaslet_meaning.specs.Table.{TableOperation, submit_request}
+use Rattle.std.specs.Prelude.{◌==◌}
+use Rattle.faaslet_meaning.specs.Records.{is_queued}
+use Rattle.faaslet_meaning.specs.Table.{Table, TableOperation, submit_request}
 use Rattle.call_table.specs.Made.{Made}
 use Rattle.call_table.specs.Session.{SessionTable}
-use Rattle.call_table.specs.SessionInside.{session_in}
+use Rattle.call_table.specs.SessionInside.{session_in, Indexed}
+use Rattle.call_table.specs.declared.progress.Progress.{Progress}
 use Rattle.call_table.proofs.Entries.{made}
+use Rattle.call_table.proofs.Index.{small, pushed}
 use Rattle.call_table.proofs.table.CallTable.submit_request.Goals as goal
 
 pub returns-clause-ok : goal.returns-clause-ok
@@ -18,3 +22,27 @@ returns-clause-ok c =
     let after = c.in_ok-push.ensures.ok ∙ ap (λ (r : CallRecord). record c.self.inside.store { records = c.self.inside.store.records ++ r ∷ [] }) c.in_ok-queued.ensures.queued in
     subst (λ (s : SessionTable). Made s o new reply) c.self.view_is
     (made old new o reply (record { may_stand = λ m. refl; after_so = λ m. after; reply_so = λ m. ap (λ n. Reply.number n) c.calls-call.ensures }) refl refl tt)
+
+pub add_request-requires : goal.add_request-requires
+add_request-requires c =
+    let s = small c.self.inside.store.records c.self.inside.progress c.self.inside.heads c.self.invariant.indexed in
+    record { few = (s.came, s.unfinished) }
+
+pub invariant_of-self-2 : goal.invariant_of-self-2
+invariant_of-self-2 c =
+    let t = c.self.inside.store in
+    let p = c.self.inside.progress in
+    let q = c.add_request.new.self in
+    let r = c.in_ok-queued.queued in
+    let is = c.in_ok-queued.ensures.queued in
+    let state = ap (λ (x : CallRecord). is_queued x.state) is in
+    let one : (r.depth == 1) ≡ true = ap (λ (x : CallRecord). x.depth == 1) is in
+    let came : q.came ≡ cond (r.depth == 1) (suc p.came) p.came = rw one (ap (λ (x : Progress). x.came) c.add_request.ensures ∙ (let e : p.came + 1 ≡ suc p.came = omega arith in e)) in
+    let fits = pushed t.records p q c.self.inside.heads r c.self.invariant.indexed state c.in_ok-push.ensures.few came
+    (ap (λ (x : Progress). x.taken) c.add_request.ensures) (ap (λ (x : Progress). x.unfinished) c.add_request.ensures) in
+    let after = sym c.in_ok-push.ensures.ok in
+    record {
+      requests = c.self.invariant.requests;
+      indexed = subst (λ (u : Table). Indexed u.records q c.self.inside.heads) after fits;
+      hosts = subst (λ (u : Table). length c.self.inside.heads.at.items ≡ u.hosts) after c.self.invariant.hosts;
+    }
