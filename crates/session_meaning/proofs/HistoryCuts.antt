@@ -169,7 +169,7 @@ grows_by t m (take_this call host bench) = (take_goes all t m call host bench).g
 grows_by t m (finish call o used output counts) = (finish_goes all t m call o used output counts).grows
 grows_by t m (look parent child) = λ n r e. (r, e, refl)
 
-history_grows : (t : Table) (es : History TableOperation) → Grows t.records (left table_rules t es).records
+pub history_grows : (t : Table) (es : History TableOperation) → Grows t.records (left table_rules t es).records
 history_grows t [] = λ n r e. (r, e, refl)
 history_grows t (e ∷ es) = grows_on t.records (table.after t e.0 e.1).records (left table_rules t (e ∷ es)).records (grows_by t e.0 e.1) (history_grows (table.after t e.0 e.1) es)
 

@@ -56,6 +56,9 @@ pub mod Orders
 pub mod BenchParts
 pub mod OwnUnlocks
 pub mod RanSections
+pub mod RanTables
+pub mod RanSubmits
+pub mod RanParts
 mod WorldRuns
 mod TraceRuns
 mod OwnEntries

@@ -85,27 +85,27 @@ question_frees q r ch b h = quiet_frees q r ch b refl
 
 -- ---- All questions of a way.
 
-module _ (j : Invocation) (c : Configuration) (end : Progress) (differ : KeysDiffer j) (fit : ProgressFits j (runs (fresh_state c))) where
-  abbrev From : Transcript → Progress → Type 0
+module _ (j : Invocation) (c : Configuration) (end : Progress) where
+  abbrev pub From : Transcript → Progress → Type 0
   From u x = Goes j (runs (fresh_state c)) u x
 
   -- the call stands at its next question
-  stood : {x : Progress} {whole : Transcript} (q : Question) (r : Reply) (t u : Transcript) → whole ≡ (q, r) ∷ t → Goes j x whole end → From u x → (s : State) × From u (asks s q)
+  pub stood : {x : Progress} {whole : Transcript} (q : Question) (r : Reply) (t u : Transcript) → whole ≡ (q, r) ∷ t → Goes j x whole end → From u x → (s : State) × From u (asks s q)
   stood q r t u e here g = let no : ⊥ = cc in absurd no
   stood q r t u e (stepped {s = s} h) g = stood q r t u e h (subst (λ v. From v (call_step j s)) (append-nil u) (joined g (stepped here)))
   stood q r t u e (answered {s = s} {q = q'} {r = r'} fits h) g = let pair : ◌≡◌ {A = Question × Reply} (q', r') (q, r) = cc in (s, subst (λ y. From u (asks s y)) (ap (λ z. z.0) pair) g)
 
-  frees_way : (v u : Transcript) (ch : Channel) → From (u ++ v) end → frees (keeps false (told_by u ch)) (told_by v ch) ≡ true
-  frees_way [] u ch g = refl
-  frees_way (x ∷ t) u ch g =
-      let parts = parted u (x ∷ t) g in
-      let at = stood x.0 x.1 t u refl parts.2 parts.1 in
-      let b = keeps false (told_by u ch) in
-      let chunk = on_channel ch (entries x.0 x.1) in
-      let first : frees b chunk ≡ true = question_frees x.0 x.1 ch b (λ d e same. ap (λ k. keeps false (told_by u k)) (channel_same ch d same) ∙ unlocks_own j (runs (fresh_state c)) at.0 d u differ fit (none_told j) (subst (λ q. From u (asks at.0 q)) e at.1)) in
-      let later = frees_way t (u ++ x ∷ []) ch (subst (λ v. From v end) (sym (append_assoc u (x ∷ []) t)) g) in
-      let kept : keeps false (told_by (u ++ x ∷ []) ch) ≡ keeps b chunk = ap (keeps false) (told_more u x.0 x.1 ch) ∙ keeps_both false (told_by u ch) chunk in
-      ap (frees b) (on_both ch (entries x.0 x.1) (entries_of t)) ∙ frees_both b chunk (told_by t ch) first (ap (λ d. frees d (told_by t ch)) (sym kept) ∙ later)
+frees_way : (j : Invocation) (c : Configuration) (end : Progress) (differ : KeysDiffer j) (fit : ProgressFits j (runs (fresh_state c))) (v u : Transcript) (ch : Channel) → From j c end (u ++ v) end → frees (keeps false (told_by u ch)) (told_by v ch) ≡ true
+frees_way j c end differ fit [] u ch g = refl
+frees_way j c end differ fit (x ∷ t) u ch g =
+    let parts = parted u (x ∷ t) g in
+    let at = stood j c end x.0 x.1 t u refl parts.2 parts.1 in
+    let b = keeps false (told_by u ch) in
+    let chunk = on_channel ch (entries x.0 x.1) in
+    let first : frees b chunk ≡ true = question_frees x.0 x.1 ch b (λ d e same. ap (λ k. keeps false (told_by u k)) (channel_same ch d same) ∙ unlocks_own j (runs (fresh_state c)) at.0 d u differ fit (none_told j) (subst (λ q. From j c end u (asks at.0 q)) e at.1)) in
+    let later = frees_way j c end differ fit t (u ++ x ∷ []) ch (subst (λ v. From j c end v end) (sym (append_assoc u (x ∷ []) t)) g) in
+    let kept : keeps false (told_by (u ++ x ∷ []) ch) ≡ keeps b chunk = ap (keeps false) (told_more u x.0 x.1 ch) ∙ keeps_both false (told_by u ch) chunk in
+    ap (frees b) (on_both ch (entries x.0 x.1) (entries_of t)) ∙ frees_both b chunk (told_by t ch) first (ap (λ d. frees d (told_by t ch)) (sym kept) ∙ later)
 
 -- ---- Of a run.
 

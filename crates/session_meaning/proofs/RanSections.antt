@@ -139,7 +139,7 @@ in_part from count xs ys y l h =
 
 -- ---- What a call was told is its part of what its bench was told.
 
-own_at : (plan : Plan) (s : Session) (r : CallRecord) (ch : Channel) (host bench : ℕ) → host_of r.state ≡ Some host → bench_of r.state ≡ Some bench → own plan s r ch ≡ part plan s r host bench ch
+pub own_at : (plan : Plan) (s : Session) (r : CallRecord) (ch : Channel) (host bench : ℕ) → host_of r.state ≡ Some host → bench_of r.state ≡ Some bench → own plan s r ch ≡ part plan s r host bench ch
 own_at plan s r ch host bench e f = ap₂ {A = Option ℕ} {B = Option ℕ} (λ x y. elim x as (λ o. List Answered) [ None ↦ [] | Some h ↦ elim y as (λ o. List Answered) [ None ↦ [] | Some b ↦ part plan s r h b ch ] ]) e f
 
 pub bench_so : (bench : ℕ) (s : CallState) → elim (bench_of s) as (λ o. Bool) [ None ↦ false | Some b ↦ b == bench ] ≡ true → bench_of s ≡ Some bench
@@ -193,7 +193,7 @@ own_unlock plan s finals ch m start h before behind fine ran is_bench heard_so m
 
 -- ---- Each object.
 
-all_middle : {A : Type 0} (test : A → Bool) (xs ys : List A) (x : A) → list_all test (xs ++ x ∷ ys) ≡ true → test x ≡ true
+pub all_middle : {A : Type 0} (test : A → Bool) (xs ys : List A) (x : A) → list_all test (xs ++ x ∷ ys) ≡ true → test x ≡ true
 all_middle test [] ys x h = (and_parts (test x) (list_all test ys) h).0
 all_middle test (z ∷ xs) ys x h = all_middle test xs ys x (and_parts (test z) (list_all test (xs ++ x ∷ ys)) h).1
 

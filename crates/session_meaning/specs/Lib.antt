@@ -20,6 +20,7 @@ pub mod WorldTold
 pub mod OwnSections
 pub mod Trail
 pub mod Ran
+pub mod RanPart
 pub mod Seen
 pub mod Cut
 pub mod CallNames

@@ -27,7 +27,7 @@ pub use plan_laws::{
     limits_refuse_nothing_else, load_plan_is_well_formed, module_keeps_well_formed,
     well_formed_fits,
 };
-pub use ran_laws::ran_has_own_sections;
+pub use ran_laws::{ran_has_own_sections, ran_two_worlds};
 pub use report_laws::{cut_report, report_is_lines};
 pub use session_laws::{calls_rest, histories_lead, one_schedule, schedule_stands};
 pub use table_cut_laws::cut_of_history;
