@@ -1,0 +1,5 @@
+pub mod Files
+pub mod Leaves
+pub mod MemberNames
+pub mod Refusing
+pub mod Turns

@@ -1,0 +1,4 @@
+pub mod Filled
+pub mod Grown
+pub mod Texts
+pub mod Told
