@@ -1,21 +1,36 @@
 #!/usr/bin/env python3
-"""Times what makes a machine ready for a call: building the snapshot anew, restoring it, and setting back to it.
+"""Measures what makes a machine ready for a call: restoring its snapshot, and setting it back after pages were written.
 
-It takes a copy of the crates, adds the program `snapshot_times` to them, has the toolchain prove and build that,
-and times it with so many turns and with none. The program's files end in .txt, since the gate takes every source
-file of the repository for a part of a crate.
+It prints times in microseconds, the least of many turns, beside those of a plain copy of as many bytes; and where
+valgrind is installed the machine instructions of one turn. It takes a copy of the crates that the program
+`snapshot_times` uses, adds that to them, and has the toolchain prove and build it; or it takes a program that is built.
 """
 import argparse
 import pathlib
+import re
 import shutil
 import subprocess
 import tempfile
 
-from bench import END, best, code, const, get, repeat, section, u, vec
+from bench import END, code, const, get, repeat, section, u, vec
 
 USES = "proto_faaslet wasm_interp region_map function_rules wasm_validate wasm_decode fa_outside faaslet_meaning"
 
 STORE = b"\x36\x02\x00"
+
+HERE = pathlib.Path(__file__).resolve().parent
+
+FILES = {
+    "bench/snapshot_times/main.txt": "src/main.rt",
+    "bench/snapshot_times/restore_again.txt": "proofs/restore_again/Invariants.antt",
+    "bench/snapshot_times/reset_again.txt": "proofs/reset_again/Invariants.antt",
+    "bench/snapshot_times/write_pages.txt": "proofs/write_pages/Invariants.antt",
+    "crates/faasm_cli/src/edge.rt": "src/edge.rt",
+}
+
+PAGES = [1, 17, 1024]
+
+COUNTED = {"restore": "restore_once", "reset": "reset_once", "copy": "copy_once"}
 
 
 def module(pages, stores):
@@ -40,53 +55,99 @@ def module(pages, stores):
     )
 
 
-CASES = [("1 page", module(1, 0)), ("17 pages", module(17, 0)), ("17 pages, init stores 10,000 words", module(17, 10_000))]
-
-TURNS = {"build": 2_000, "restore": 20_000, "reset": 20_000}
-
-FILES = {
-    "bench/snapshot_times/main.txt": "src/main.rt",
-    "bench/snapshot_times/restore_again.txt": "proofs/restore_again/Invariants.antt",
-    "bench/snapshot_times/reset_again.txt": "proofs/reset_again/Invariants.antt",
-    "crates/faasm_cli/src/edge.rt": "src/edge.rt",
-}
+def needed(listed):
+    """The crates that the program uses, and those below them."""
+    uses = {}
+    for line in listed.splitlines():
+        name, _, rest = line.partition(":")
+        if not line.startswith("#"):
+            uses[name.split()[0]] = rest.split()
+    found, left = set(), USES.split()
+    while left:
+        name = left.pop()
+        if name in uses and name not in found:
+            found.add(name)
+            left += uses[name]
+    return found
 
 
 def built(folder):
-    """The program, from a copy of the crates."""
-    top = pathlib.Path(__file__).resolve().parent.parent
-    shutil.copytree(top / "crates", folder / "crates", symlinks=True)
+    """The program, from a copy of the crates with what was proved of them."""
+    top = HERE.parent
+    listed = (top / "crates.txt").read_text()
+    crates = needed(listed)
+    for name in crates:
+        shutil.copytree(top / "crates" / name, folder / "crates" / name, symlinks=True)
     program = folder / "crates" / "snapshot_times"
     for source, place in FILES.items():
         (program / place).parent.mkdir(parents=True, exist_ok=True)
         shutil.copy(top / source, program / place)
-    listed = (top / "crates.txt").read_text()
-    (folder / "crates.txt").write_text(f"{listed}snapshot_times: {USES}\n")
+    lines = [line for line in listed.splitlines() if re.split(r"[ :]", line)[0] in crates]
+    (folder / "crates.txt").write_text("\n".join([*lines, f"snapshot_times: {USES}"]) + "\n")
+    shutil.copy(top / "HANDLES", folder / "HANDLES")
     first = folder / "first.wasm"
-    first.write_bytes(CASES[0][1])
-    subprocess.run(["rt", "run", "--", str(first), "reset", "1"], cwd=program, check=True, stdin=subprocess.DEVNULL)
+    first.write_bytes(module(1, 0))
+    subprocess.run(["rt", "run", "--", str(first), "reset", "1", "1"], cwd=program, check=True, stdin=subprocess.DEVNULL)
     return program / "out" / "snapshot_times"
+
+
+class Program:
+    """The program, the folder for its modules, and how often it is run."""
+
+    def __init__(self, path, folder, runs):
+        self.path, self.folder, self.runs = str(path), folder, runs
+        self.valgrind = shutil.which("valgrind")
+
+    def words(self, pages, way, written, turns):
+        file = self.folder / f"{pages}.wasm"
+        if not file.exists():
+            file.write_bytes(module(pages, 0))
+        return [self.path, str(file), way, str(written), str(turns)]
+
+    def times(self, pages, way, written, turns):
+        """The least microseconds of writing the pages, and of what is measured."""
+        words = self.words(pages, way, written, turns)
+        told = [subprocess.run(words, check=True, capture_output=True, text=True).stdout.split() for _ in range(self.runs)]
+        return [min(int(each[k]) for each in told) / 1e3 for k in (0, 1)]
+
+    def counted(self, pages, way, written):
+        """The machine instructions of one turn of what is measured."""
+        out = self.folder / "callgrind.out"
+        tool = [self.valgrind, "--tool=callgrind", f"--callgrind-out-file={out}"]
+        tool.append(f"--toggle-collect=snapshot_times::{COUNTED[way]}*")
+        told = subprocess.run([*tool, *self.words(pages, way, written, 1)], check=True, capture_output=True, text=True)
+        return int(re.search(r"Collected : (\d+)", told.stderr)[1])
+
+    def cell(self, pages, way, written):
+        turns = 20 if written > 100 else 500
+        write, ready = self.times(pages, way, written, turns)
+        text = f"{way} {ready:.2f} us"
+        if self.valgrind:
+            text += f", {self.counted(pages, way, written):,} instructions"
+        return write, text
+
+
+def show(program):
+    for pages in PAGES:
+        _, anew = program.times(pages, "build", 0, 10)
+        print(f"{pages} pages: built anew {anew:,.0f} us", flush=True)
+        for written in sorted({0, 1, 16, pages}):
+            if written <= pages:
+                write, reset = program.cell(pages, "reset", written)
+                _, restore = program.cell(pages, "restore", written)
+                print(f"    {written} written (in {write:,.1f} us): {restore}; {reset}", flush=True)
+    for pages in (1, 16, 17, 1024):
+        print(f"plain copy of {pages} pages: {program.cell(1, 'copy', pages)[1]}", flush=True)
 
 
 def main():
     parser = argparse.ArgumentParser(description=__doc__)
     parser.add_argument("--runs", type=int, default=5)
+    parser.add_argument("--program", help="one that is built, in place of proving and building it")
     options = parser.parse_args()
     with tempfile.TemporaryDirectory() as name:
         folder = pathlib.Path(name)
-        program = built(folder)
-        for case, content in CASES:
-            file = folder / "case.wasm"
-            file.write_bytes(content)
-            cells = []
-            for way, turns in TURNS.items():
-                spent, text = best([str(program), str(file), way, str(turns)], options.runs)
-                empty, _ = best([str(program), str(file), way, "0"], options.runs)
-                if spent is None or empty is None:
-                    cells.append(f"{way} failed {text}")
-                else:
-                    cells.append(f"{way} {(spent - empty) / turns * 1e6:.1f} us")
-            print(f"{case}: " + ", ".join(cells), flush=True)
+        show(Program(options.program or built(folder), folder, options.runs))
 
 
 if __name__ == "__main__":
