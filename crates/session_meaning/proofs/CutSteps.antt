@@ -52,7 +52,7 @@ fold_grows plan w (x ∷ es) n r e = grows_on w.table.records (step plan w x).ta
 abbrev SameCalls : (ℕ → Bool) → (ℕ → Bool) → List CallRecord → Type 0
 SameCalls is is' rs = (n : ℕ) → n < length rs → is n ≡ is' n
 
-below_there : {A : Type 0} (xs : List A) (n : ℕ) → n < length xs → (x : A) × (slice_get xs n ≡ Some x)
+pub below_there : {A : Type 0} (xs : List A) (n : ℕ) → n < length xs → (x : A) × (slice_get xs n ≡ Some x)
 below_there [] n l = let no : ⊥ = omega (arith, l) in absurd no
 below_there (x ∷ xs) zero l = (x, refl)
 below_there (x ∷ xs) (suc n) l = below_there xs n (omega (arith, l))

@@ -3,7 +3,7 @@
 use Rattle.std.proofs.Common.{◌≡◌, ℕ, zero, suc, Bool, true, false, List, [], ◌∷◌, Option, Some, None, refl, sym, subst, ap, ◌∙◌, arith}
 use Rattle.std.proofs.Math.Dec.{eqb-zero-suc, eqb-suc-zero}
 use Rattle.std.proofs.lemmas.Bool.{and_parts, eqb-true, eqb-false}
-use Rattle.std.specs.Prelude.{◌<◌, ◌&&◌, ◌==◌, IsTrue, pos, codes, slice_get, drop}
+use Rattle.std.specs.Prelude.{◌<◌, ◌&&◌, ◌==◌, All, IsTrue, pos, codes, length, nat_le, slice_get, drop}
 use Rattle.std.specs.List.{list_all}
 use Rattle.faaslet_meaning.specs.declared.call.CallRecord.{CallRecord}
 use Rattle.faaslet_meaning.specs.declared.call.CallState.TheVariants.{Queued}
@@ -18,8 +18,10 @@ use Rattle.faaslet_meaning.specs.History.{left, History, table_rules}
 use Rattle.faaslet_meaning.specs.Fresh.{Function, Made, makes, breaks, nothing, fresh}
 use Rattle.faaslet_meaning.specs.Runs.{Runs, runs_by}
 use Rattle.session_meaning.specs.Own.{Session, own, told, used_up}
-use Rattle.session_meaning.specs.Plan.{Key, Plan, callables}
+use Rattle.session_meaning.specs.Plan.{Key, Plan, Names, is_function_of, is_key_of, ClosedAt, Closed, callables}
 use Rattle.session_meaning.specs.Ran.{Ran, ReplicaRan, CallRan, is_granted}
+use Rattle.session_meaning.specs.RanPart.{no_call, only_part, table_cut, RanPart}
+use Rattle.session_meaning.proofs.RanParts.{ran_part}
 use Rattle.faaslet_meaning.proofs.ExampleRuns.{run, seen, seen_runs}
 use Rattle.session_meaning.proofs.ExampleWorlds.{of_module, writes_key, par, kid, lock, named, request, one_key, plan_of}
 
@@ -277,3 +279,48 @@ session_ran =
       calls = (parent_ran, (lock_ran, (first_ran, (second_ran, tt))));
       all_used = all_used;
     }
+
+-- ---- The part of the lock and its key.
+
+abbrev locking : Names
+locking name = nat_le 4 (length name)
+
+abbrev any_key : Names
+any_key name = true
+
+parent_closed : ClosedAt plan locking any_key (named (codes "par") parent)
+parent_closed = record { grants = λ k d h. let no : ⊥ = omega (arith, h) in absurd no; callees = callees }
+  where
+    callees : All (λ g. is_function_of plan locking g ≡ false) (1 ∷ [])
+    callees zero d h = refl
+    callees (suc k) d h = let no : ⊥ = omega (arith, h) in absurd no
+
+child_closed : ClosedAt plan locking any_key (named (codes "kid") child)
+child_closed = record { grants = λ k d h. let no : ⊥ = omega (arith, h) in absurd no; callees = λ k d h. let no : ⊥ = omega (arith, h) in absurd no }
+
+lock_closed : ClosedAt plan locking any_key (named (codes "lock") locks)
+lock_closed = record { grants = grants; callees = λ k d h. let no : ⊥ = omega (arith, h) in absurd no }
+  where
+    grants : All (λ g. is_key_of plan any_key g.key ≡ true) writes_key
+    grants zero d h = refl
+    grants (suc k) d h = let no : ⊥ = omega (arith, h) in absurd no
+
+closed : Closed plan locking any_key
+closed zero d h = parent_closed
+closed (suc zero) d h = child_closed
+closed (suc (suc zero)) d h = lock_closed
+closed (suc (suc (suc k))) d h = let no : ⊥ = omega (arith, h) in absurd no
+
+-- nothing is known of the parent, and the call of the lock was told the same
+parent_gone : slice_get (only_part plan locking any_key session).records 0 ≡ Some no_call
+parent_gone = refl
+
+lock_told_alone : told plan (only_part plan locking any_key session) (call 1) (Global 0) ≡ told_by lock_asks (Global 0)
+lock_told_alone = refl
+
+-- in the cut of the table's history it is the only call
+lock_alone : table_cut plan locking any_key session ≡ (0, submit_request 0 1 []) ∷ (0, take_this 0 1 0) ∷ (0, finish 0 (outcome.Done (pos 0)) 5 [] (0 ∷ 2 ∷ 0 ∷ [])) ∷ []
+lock_alone = refl
+
+lock_part : RanPart plan locking any_key session
+lock_part = ran_part plan locking any_key session ((0 ∷ []) ∷ []) closed session_ran

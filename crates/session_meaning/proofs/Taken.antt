@@ -13,9 +13,9 @@ use Rattle.faaslet_meaning.specs.Lists.{changed}
 use Rattle.session_meaning.specs.SessionLimits.{Within}
 use Rattle.session_meaning.specs.Names.{is_within, is_name, is_taken, number_of}
 use Rattle.session_meaning.specs.Plan.{Key, Request}
-use Rattle.session_meaning.specs.Draft.{Draft, DraftFunction, new_function, with_key, with_function, with_request, with_grant, with_callee}
-use Rattle.session_meaning.specs.Registry.{Answer, too_many, bad_name, taken, out_of_range, too_long, refuse_if, of_name, is_full, add_key, add_function, add_request, grant, allow, grants_of, callees_of, size_of}
-use Rattle.session_meaning.specs.WellFormed.{Distinct, KeyFits, GrantFits, FunctionFits, RequestFits, KeepsLimits, key_names, function_names, labels}
+use Rattle.session_meaning.specs.Draft.{Draft, DraftFunction, empty, new_function, with_key, with_function, with_request, with_grant, with_callee}
+use Rattle.session_meaning.specs.Registry.{Answer, too_many, bad_name, taken, out_of_range, too_long, over_state_budget, over_page_budget, refuse_if, of_name, is_full, new, check_budget, add_key, add_function, add_request, grant, allow, grants_of, callees_of, size_of}
+use Rattle.session_meaning.specs.WellFormed.{Distinct, KeyFits, GrantFits, FunctionFits, RequestFits, KeepsLimits, WithinBudgets, state_pages, own_pages, key_names, function_names, labels}
 use Rattle.session_meaning.proofs.Entries.{any_of}
 use Rattle.session_meaning.proofs.KeptLimits.{Rules, tested, NoneHolds}
 
@@ -46,6 +46,12 @@ anew names name h = by (position (bytes_eq name) names) refl
 
 anew_among : {A : Type 0} (name_of : A → List ℕ) (xs : List A) (x : A) → Distinct (map name_of (xs ++ x ∷ [])) → is_taken (name_of x) (map name_of xs) ≡ false
 anew_among name_of xs x h = anew (map name_of xs) (name_of x) (subst Distinct (map-append name_of xs (x ∷ [])) h)
+
+pub new_taken : (hosts workers : ℕ) → KeepsLimits (empty hosts workers) → new hosts workers ≡ Ok (empty hosts workers)
+new_taken hosts workers h = answered ((not (is_within 1 16 hosts), out_of_range) ∷ (not (is_within 1 8 workers), out_of_range) ∷ []) (Ok (empty hosts workers)) (inside 1 16 hosts h.hosts, (inside 1 8 workers h.workers, tt))
+
+pub budget_taken : (d : Draft) → WithinBudgets d → check_budget d ≡ Ok d
+budget_taken d h = answered ((nat_lt 8192 (state_pages d), over_state_budget) ∷ (nat_lt 16384 (own_pages d), over_page_budget) ∷ []) (Ok d) (le-ltb 8192 (state_pages d) h.state, (le-ltb 16384 (own_pages d) h.own, tt))
 
 pub key_taken : (d : Draft) (k : Key) → KeepsLimits (with_key d k) → add_key d k.name k.size k.init ≡ Ok (with_key d k)
 key_taken d k h =

@@ -66,7 +66,7 @@ open_grows plan rs rs' call o g k =
 abbrev or_none : Option (Option Open) → Option Open
 or_none o = unwrap_or o None
 
-get_open : (cs : List (Option Open)) (m : ℕ) (o : Open) → unwrap_or (slice_get cs m) None ≡ Some o → slice_get cs m ≡ Some (Some o)
+pub get_open : (cs : List (Option Open)) (m : ℕ) (o : Open) → unwrap_or (slice_get cs m) None ≡ Some o → slice_get cs m ≡ Some (Some o)
 get_open cs m o e = by (slice_get cs m) e
   where
     by : (x : Option (Option Open)) → or_none x ≡ Some o → x ≡ Some (Some o)

@@ -9,14 +9,14 @@ ghost use Rattle.faaslet_meaning.specs.Runnable.{Runnable};
 ghost use Rattle.faaslet_meaning.specs.Runs.{invocation};
 ghost use Rattle.faaslet_meaning.specs.Valid.{Valid};
 ghost use Rattle.session_meaning.specs.CallNames.{DistinctLabels, DistinctNames, PlainLabels};
-ghost use Rattle.session_meaning.specs.Draft.{Draft, new_function, plan_of, with_callee, with_function, with_grant, with_key, with_module, with_request};
+ghost use Rattle.session_meaning.specs.Draft.{Draft, empty, new_function, plan_of, with_callee, with_function, with_grant, with_key, with_module, with_request};
 ghost use Rattle.session_meaning.specs.LoadPlan.{load_plan};
 ghost use Rattle.session_meaning.specs.Names.{number_of};
 ghost use Rattle.session_meaning.specs.Plan.{Key, Plan, Request};
-ghost use Rattle.session_meaning.specs.Registry.{add_function, add_key, add_request, allow, grant};
+ghost use Rattle.session_meaning.specs.Registry.{add_function, add_key, add_request, allow, check_budget, grant, new};
 ghost use Rattle.session_meaning.specs.SessionFile.{Answer, FileFits, PlanOf, Planned};
 ghost use Rattle.session_meaning.specs.SessionLimits.{request_limit};
-ghost use Rattle.session_meaning.specs.WellFormed.{KeepsLimits, ModuleFits, WellFormed, WellFormedDraft, function_names, key_names};
+ghost use Rattle.session_meaning.specs.WellFormed.{KeepsLimits, ModuleFits, WellFormed, WellFormedDraft, WithinBudgets, function_names, key_names};
 ghost use Rattle.session_meaning.specs.WorldTold.{CallsFit};
 
 /// What a session file gives keeps every limit and both budgets, and has no module yet.
@@ -29,8 +29,10 @@ pub fn file_has_one_answer()
     ensures { (bytes : List ℕ) (a b : Answer Planned) → PlanOf bytes a → PlanOf bytes b → a ≡ b }
 {}
 
-/// An entry with which the limits are kept is not refused.
+/// An entry with which the limits are kept is not refused, and neither is a draft within its budgets.
 pub fn limits_refuse_nothing_else()
+    ensures sessions { (hosts workers : ℕ) → KeepsLimits (empty hosts workers)
+        → new hosts workers ≡ Ok (empty hosts workers) }
     ensures keys { (d : Draft) (k : Key) → KeepsLimits (with_key d k)
         → add_key d k.name k.size k.init ≡ Ok (with_key d k) }
     ensures functions { (d : Draft) (name : List ℕ) (quota fuel room : ℕ)
@@ -45,6 +47,7 @@ pub fn limits_refuse_nothing_else()
     ensures requests { (d : Draft) (function : List ℕ) (r : Request)
         → number_of function (function_names d) ≡ Some r.function → KeepsLimits (with_request d r)
         → add_request d r.label function r.host r.input ≡ Ok (with_request d r) }
+    ensures budgets { (d : Draft) → WithinBudgets d → check_budget d ≡ Ok d }
 {}
 
 /// A draft stays well formed where a function gets a module that a function may have.
