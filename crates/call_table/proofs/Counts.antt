@@ -1,12 +1,11 @@
 -- The counts of the records, where a record is put behind the others, a call is taken, and one is finished.
-use Rattle.std.proofs.Common.{◌≡◌, ℕ, suc, ◌+◌, ◌<◌, ◌≤◌, List, [], ◌∷◌, ◌++◌, length, Bool, true, false, cond, Some, filter, slice_get, slice_set, refl, sym, ap, ◌∙◌, arith}
+use Rattle.std.proofs.Common.{◌≡◌, ℕ, suc, ◌+◌, ◌≤◌, List, [], ◌∷◌, ◌++◌, length, Bool, true, false, cond, Some, filter, slice_get, slice_set, refl, sym, ap, ◌∙◌, arith}
 use Rattle.std.specs.Prelude.{not, ◌==◌}
 use Rattle.faaslet_meaning.specs.declared.call.CallRecord.{CallRecord}
 use Rattle.faaslet_meaning.specs.declared.call.CallState.{CallState}
 use Rattle.faaslet_meaning.specs.declared.call.CallState.TheVariants.{Queued, Taken, Finished}
-use Rattle.faaslet_meaning.specs.Records.{is_queued, is_open, is_finished, takes}
+use Rattle.faaslet_meaning.specs.Records.{is_queued, is_open, is_finished}
 use Rattle.call_table.specs.Progress.{ProgressFits}
-use Rattle.call_table.specs.Session.{came, open_or_queued}
 use Rattle.call_table.specs.declared.progress.Progress.{Progress}
 use Rattle.call_table.proofs.Counting.{count, count_same, count_more, count_less, count_push}
 

@@ -1,12 +1,11 @@
 -- Places before which no call is queued: where the search stops is the first that is, and changes of the records keep them.
-use Rattle.std.proofs.Common.{◌≡◌, ℕ, zero, suc, ◌+◌, ◌<◌, ◌≤◌, List, [], ◌∷◌, ◌++◌, length, Bool, true, false, cond, Option, Some, None, get_or, slice_get, slice_set, set, IfSome, IfNone, refl, sym, ap, subst, ◌∙◌, arith}
+use Rattle.std.proofs.Common.{◌≡◌, ℕ, zero, suc, ◌+◌, ◌<◌, ◌≤◌, List, [], ◌∷◌, ◌++◌, length, Bool, true, false, Option, Some, None, get_or, slice_get, slice_set, IfSome, IfNone, refl, sym, ap, ◌∙◌, arith}
 use mathlib.Core.Logic.{dite}
 use native.Mathlib.Decide.{ℕ_discrete}
 use Rattle.std.proofs.lemmas.List.{length-set, length_push}
 use Rattle.std.proofs.lemmas.Option.{slice_get_read, same_Some}
 use Rattle.faaslet_meaning.specs.declared.call.CallRecord.{CallRecord}
 use Rattle.faaslet_meaning.specs.Lists.{first, places_from, places, passes_at}
-use Rattle.faaslet_meaning.specs.Records.{queue, queued_calls}
 use Rattle.call_table.specs.Heads.{at_host, anywhere, NoneBefore, StopsAt, HeadsFit}
 use Rattle.call_table.specs.declared.heads.Heads.{Heads}
 use Rattle.call_table.proofs.Places.{passes_so}

@@ -1,6 +1,6 @@
 -- What is kept beside the records stays theirs where a record is put behind the others, a call is taken, one is finished, and
 -- one has a child more.
-use Rattle.std.proofs.Common.{ne_eqb, ◌≡◌, ℕ, suc, ◌+◌, ◌<◌, ◌≤◌, ◌^◌, List, [], ◌∷◌, ◌++◌, length, Bool, true, false, cond, Some, slice_get, slice_set, refl, sym, ap, subst, ◌∙◌, arith}
+use Rattle.std.proofs.Common.{ne_eqb, ◌≡◌, ℕ, suc, ◌+◌, ◌<◌, ◌^◌, List, [], ◌∷◌, ◌++◌, length, true, false, cond, Some, slice_get, slice_set, refl, sym, ap, subst, ◌∙◌, arith}
 use Rattle.std.specs.Prelude.{◌==◌, not}
 use Rattle.std.proofs.lemmas.List.{length-set, length_push}
 use Rattle.faaslet_meaning.specs.declared.call.CallRecord.{CallRecord}
@@ -10,7 +10,6 @@ use Rattle.faaslet_meaning.specs.declared.outcome.Outcome.{Outcome}
 use Rattle.faaslet_meaning.specs.Lists.{passes_at, changed}
 use Rattle.faaslet_meaning.specs.Records.{is_queued, is_open, is_finished, takes}
 use Rattle.faaslet_meaning.specs.Table.{Table, taken, finished_state, one_more_child, queued_record}
-use Rattle.call_table.specs.Session.{came, open_or_queued}
 use Rattle.call_table.specs.SessionInside.{Indexed}
 use Rattle.call_table.specs.Parent.{IsParent}
 use Rattle.call_table.specs.declared.store.Parent.{Parent}

@@ -3,6 +3,7 @@ pub mod Handed
 pub mod Heads
 pub mod Held
 pub mod Inside
+pub mod Loads
 pub mod Looked
 pub mod Made
 pub mod Makers

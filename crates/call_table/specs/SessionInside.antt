@@ -2,6 +2,7 @@
 use Rattle.std.specs.Prelude.{◌≡◌, ◌<◌, ◌^◌, List, length}
 use Rattle.faaslet_meaning.specs.declared.call.CallRecord.{CallRecord}
 use Rattle.call_table.specs.Heads.{HeadsFit}
+use Rattle.call_table.specs.Loads.{LoadsFit}
 use Rattle.call_table.specs.Progress.{ProgressFits}
 use Rattle.call_table.specs.Session.{SessionTable}
 use Rattle.call_table.specs.declared.heads.Heads.{Heads}
@@ -21,4 +22,5 @@ pub record Indexed (records : List CallRecord) (progress : Progress) (heads : He
 pub record IsSession (t : Inside) : Type 0 where
   pub requests : t.requests < 2 ^ 31
   pub indexed : Indexed t.store.records t.progress t.heads
+  pub loads : LoadsFit t.store.hosts t.store.records t.loads
   pub hosts : length t.heads.at.items ≡ t.store.hosts

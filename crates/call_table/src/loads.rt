@@ -1,67 +1,88 @@
-//! How many calls are queued at each host, and which hosts are warm, as the records say.
+//! How many calls are queued at each host, and which hosts are warm, kept beside the records.
 
-ghost use Rattle.std.specs.Prelude.{◌≡◌, ◌==◌, ◌&&◌, IfOk, filter, length, map};
-ghost use Rattle.std.specs.List.{range_with_len};
-ghost use Rattle.faaslet_meaning.specs.Records as said;
+ghost use Rattle.std.specs.Prelude.{◌≡◌, ◌+◌, ◌-◌, ◌<◌, ◌≤◌, ◌++◌, ◌∷◌, ◌^◌, [], All, IfOk, OnOk, length, slice_index_or, slice_set, vec_capacity};
+ghost use Rattle.faaslet_meaning.specs.Placement as said;
+ghost use Rattle.call_table.specs.Loads.{LoadsFit, WarmWith};
 
-use crate::records::is_queued;
-use faaslet_meaning::{CallRecord, CallState, Counts, Pairs};
-use host_scheduler::HostLoads;
+use host_scheduler::{is_warm, place_among};
 use std::alloc::{AllocError, Global};
 
-/// The loads of so many hosts.
-pub(crate) fn loads_of(
-    alloc: Global,
-    records: &[CallRecord],
-    hosts: u32,
-) -> Result<HostLoads, AllocError>
-    ensures { IfOk result (λ l. (l.queued ≡ map (λ host. length (said.queue records.now host)) (range_with_len 0 hosts)) × (l.warm ≡ said.warm records.now)) }
-{
-    let queued = queued(alloc, records, hosts)?;
-    let warm = warm(alloc, records)?;
-    Ok(HostLoads {
-        queued: Counts::of(queued),
-        warm: Pairs::of(warm),
-    })
+/// The queued calls of each host, and each pair of a function and a host that is warm, with room for one more pair for
+/// each call that is queued.
+#[derive(Drop)]
+pub(crate) struct Loads {
+    queued: Vec<u64>,
+    warm: Vec<(u32, u32)>,
 }
 
-fn queued_at(records: &[CallRecord], host: u32) -> usize
-    ensures { result ≡ length (filter (λ r. said.is_queued r.state && (r.placed == host)) records.now) }
-{
-    records
-        .iter()
-        .filter(|r| is_queued(&r.state) && r.placed == host)
-        .count()
-}
-
-fn queued(alloc: Global, records: &[CallRecord], hosts: u32) -> Result<Vec<u64>, AllocError>
-    ensures { IfOk result (λ v. v.items ≡ map (λ host. length (said.queue records.now host)) (range_with_len 0 hosts)) }
-{
-    let mut lengths = Vec::new(alloc);
-    for host in 0..hosts {
-        lengths.push(queued_at(records, host) as u64)?;
+impl Loads {
+    pub(crate) fn new(alloc: Global, hosts: u32) -> Result<Loads, AllocError>
+        ensures { IfOk result (λ l. LoadsFit hosts [] l) }
+    {
+        let queued = vec![in alloc; 0; hosts as usize]?;
+        Ok(Loads {
+            queued,
+            warm: Vec::new(alloc),
+        })
     }
-    Ok(lengths)
-}
 
-fn host_of(state: &CallState) -> Option<u32>
-    ensures { result ≡ said.host_of state.now }
-{
-    match state {
-        CallState::Queued => None,
-        CallState::Taken { host, .. } => Some(*host),
-        CallState::Finished { host, .. } => Some(*host),
+    /// The host of a call of the function that comes from a host.
+    pub(crate) fn place(&self, function: u32, from: u32) -> u32
+        requires from { from < length self.now.queued.items }
+        requires warm { All (λ w. w.1 < length self.now.queued.items) self.now.warm.items }
+        ensures { result ≡ said.place self.now.queued.items self.now.warm.items function from }
+    {
+        place_among(&self.queued, &self.warm, function, from)
     }
-}
 
-fn warm(alloc: Global, records: &[CallRecord]) -> Result<Vec<(u32, u32)>, AllocError>
-    ensures { IfOk result (λ v. v.items ≡ said.warm records.now) }
-{
-    let mut pairs = Vec::new(alloc);
-    for r in records {
-        if let Some(host) = host_of(&r.state) {
-            pairs.push((r.function, host))?;
+    /// Makes room for the pairs of so many calls.
+    pub(crate) fn reserve(&mut self, calls: u32) -> Result<(), AllocError>
+        ensures queued { self.new.queued.items ≡ self.old.queued.items }
+        ensures warm { self.new.warm.items ≡ self.old.warm.items }
+        ensures more { vec_capacity self.old.warm ≤ vec_capacity self.new.warm }
+        ensures ok { OnOk result (length self.old.warm.items + calls ≤ vec_capacity self.new.warm) }
+    {
+        self.warm.reserve(calls as usize)
+    }
+
+    /// A call is queued at the host.
+    pub(crate) fn add(&mut self, host: u32)
+        requires few { slice_index_or self.old.queued.items host 0 < 2 ^ 31 }
+        ensures queued { self.new.queued.items ≡ slice_set self.old.queued.items host (slice_index_or self.old.queued.items host 0 + 1) }
+        ensures warm { self.new.warm ≡ self.old.warm }
+    {
+        raise(&mut self.queued, host);
+    }
+
+    /// A call of the function that is queued at one host is taken at another.
+    pub(crate) fn start(&mut self, function: u32, placed: u32, host: u32)
+        requires room { length self.old.warm.items < vec_capacity self.old.warm }
+        ensures queued { self.new.queued.items ≡ slice_set self.old.queued.items placed (slice_index_or self.old.queued.items placed 0 - 1) }
+        ensures warm { WarmWith self.old.warm.items function host self.new.warm.items }
+        ensures room { vec_capacity self.new.warm ≡ vec_capacity self.old.warm }
+    {
+        lower(&mut self.queued, placed);
+        if !is_warm(&self.warm, function, host) {
+            self.warm.push_reserved((function, host));
         }
     }
-    Ok(pairs)
+}
+
+fn raise(queued: &mut [u64], host: u32)
+    requires few { slice_index_or queued.old host 0 < 2 ^ 31 }
+    ensures { queued.new ≡ slice_set queued.old host (slice_index_or queued.old host 0 + 1) }
+{
+    let at = host as usize;
+    if at < queued.len() {
+        queued[at] += 1;
+    }
+}
+
+fn lower(queued: &mut [u64], host: u32)
+    ensures { queued.new ≡ slice_set queued.old host (slice_index_or queued.old host 0 - 1) }
+{
+    let at = host as usize;
+    if at < queued.len() {
+        queued[at] = queued[at].saturating_sub(1);
+    }
 }

@@ -13,11 +13,9 @@ ghost use Rattle.call_table.specs.Makers.{is_on};
 ghost use Rattle.call_table.specs.Parent.{IsParent, IsChildOf};
 
 use crate::jobs::{self, Job, Unfinished};
-use crate::loads::loads_of;
 use crate::records;
 use crate::spare::{Spare, filled};
 use faaslet_meaning::{Bytes, CallRecord, CallState, Callable, Outcome, Reply};
-use host_scheduler::place;
 use std::alloc::{AllocError, Global};
 use std::marker::Model;
 
@@ -240,24 +238,25 @@ impl Store {
         }
     }
 
-    /// A record of a new request.
+    /// A record of a request with this number, or of a child but for what it takes of its parent.
     pub(crate) fn queued_record(
         &self,
         function: u32,
         from: u32,
+        request: u32,
+        placed: u32,
         input: &[u8],
     ) -> Result<CallRecord, AllocError>
         requires function { function < length self.now.functions }
-        requires from { from < self.now.hosts }
+        requires placed { placed ≡ table.place_of self.now function from }
         requires input { length input.now ≤ piece_limit }
-        ensures queued { IfOk result (λ r. r ≡ table.queued_record self.now function from input.now) }
+        ensures queued { IfOk result (λ r. r ≡ record (table.queued_record self.now function from input.now) { request = request }) }
         ensures held { IfOk result (λ r. IsHeld self.now.hosts (length self.now.functions) (length self.now.records) r) }
     {
         let known = self.functions[function as usize];
-        let loads = loads_of(self.alloc, &self.records, self.hosts)?;
         let input = input.to_vec(self.alloc)?;
         Ok(CallRecord {
-            request: records::requests(&self.records) as u32,
+            request,
             parent: None,
             child: 0,
             depth: 1,
@@ -266,7 +265,7 @@ impl Store {
             room: known.room,
             fuel: known.fuel,
             from,
-            placed: place(&loads, function, from),
+            placed,
             state: CallState::Queued,
             children: 0,
         })
@@ -292,17 +291,19 @@ impl Store {
         &mut self,
         p: Parent,
         function: u32,
+        placed: u32,
         input: &[u8],
     ) -> Result<(), AllocError>
         requires parent { IsParent self.old p }
         requires depth { p.depth < 8 }
+        requires placed { placed ≡ table.place_of self.old function p.host }
         requires function { function < length self.old.functions }
         requires input { length input.now ≤ piece_limit }
         ensures ok { OnOk result (IsChildOf self.old p function input.now self.new) }
         ensures few { OnOk result (length self.old.records + 1 < 2 ^ 31) }
         ensures want { OnErr result (self.new ≡ self.old) }
     {
-        let queued = self.queued_record(function, p.host, input)?;
+        let queued = self.queued_record(function, p.host, p.request, placed, input)?;
         let child = CallRecord {
             request: p.request,
             parent: Some(p.call),

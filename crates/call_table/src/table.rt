@@ -17,6 +17,7 @@ ghost use Rattle.call_table.specs.Session.{empty_session, unfinished};
 
 use crate::heads::Heads;
 use crate::jobs::{Job, Next, SubmitFault, Unfinished};
+use crate::loads::Loads;
 use crate::progress::Progress;
 use crate::records;
 use crate::store::{Parent, Store};
@@ -39,6 +40,7 @@ pub struct CallTable {
     store: Store,
     progress: Progress,
     heads: Heads,
+    loads: Loads,
     workers: u32,
     requests: u32,
 }
@@ -75,6 +77,7 @@ impl CallTable {
             store,
             progress: Progress::new(),
             heads,
+            loads: Loads::new(alloc, hosts)?,
             workers,
             requests,
         })
@@ -172,10 +175,15 @@ impl CallTable {
         ensures ok { IfOk result (λ call. Made self.old (table.submit_request function host input.now) self.new (SpecReply.number call)) }
         ensures want { OnErr result (self.new ≡ self.old) }
     {
+        let placed = self.place(function, host);
         let call = self.store.calls();
-        let queued = self.store.queued_record(function, host, input)?;
+        let queued = self
+            .store
+            .queued_record(function, host, self.progress.came, placed, input)?;
+        self.loads.reserve(call + 1 - self.progress.taken)?;
         self.store.push(queued)?;
         self.progress.add_request();
+        self.loads.add(placed);
         Ok(call)
     }
 
@@ -257,6 +265,14 @@ impl CallTable {
         self.store.look(call, out)
     }
 
+    /// The host of a call of the function that comes from a host.
+    fn place(&self, function: u32, from: u32) -> u32
+        requires from { from < self.now.table.hosts }
+        ensures { result ≡ table.place_of self.now.table function from }
+    {
+        self.loads.place(function, from)
+    }
+
     /// Adds a child for which the limits have room.
     fn add_child(&mut self, p: Parent, function: u32, input: &[u8]) -> Result<(), AllocError>
         requires parent { IsParent self.old.table p }
@@ -267,8 +283,12 @@ impl CallTable {
         ensures rest { (self.new.workers ≡ self.old.workers) × (self.new.requests ≡ self.old.requests) }
         ensures want { OnErr result (self.new ≡ self.old) }
     {
-        self.store.push_child(p, function, input)?;
+        let placed = self.place(function, p.host);
+        let call = self.store.calls();
+        self.loads.reserve(call + 1 - self.progress.taken)?;
+        self.store.push_child(p, function, placed, input)?;
         self.progress.add_child();
+        self.loads.add(placed);
         Ok(())
     }
 
@@ -289,10 +309,13 @@ impl CallTable {
         ensures taken { self.new ≡ record self.old { table = table.taken self.old.table call host bench } }
         ensures handed { Handed self.old.table.records call result input.old input.new }
     {
+        let known = self.store.record_of(call);
+        let placed = known.placed;
         let job = self
             .store
             .take(call, host, bench, self.progress.taken, input);
         self.progress.take();
+        self.loads.start(job.function, placed, host);
         job
     }
 }

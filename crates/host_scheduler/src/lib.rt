@@ -3,7 +3,7 @@
 
 mod loads;
 
-pub use loads::{HostLoads, place};
+pub use loads::{HostLoads, is_warm, place, place_among};
 
 #[cfg(test)]
 mod tests;

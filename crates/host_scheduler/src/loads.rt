@@ -22,8 +22,20 @@ pub fn place(loads: &HostLoads, function: u32, from: u32) -> u32
     requires warm { All (λ w. w.1 < length loads.now.queued) loads.now.warm }
     ensures { result ≡ place loads.now.queued loads.now.warm function from }
 {
-    let queued = loads.queued.as_slice();
-    let warm = loads.warm.as_slice();
+    place_among(
+        loads.queued.as_slice(),
+        loads.warm.as_slice(),
+        function,
+        from,
+    )
+}
+
+/// The same, for loads that the caller keeps.
+pub fn place_among(queued: &[u64], warm: &[(u32, u32)], function: u32, from: u32) -> u32
+    requires from { from < length queued.now }
+    requires warm { All (λ w. w.1 < length queued.now) warm.now }
+    ensures { result ≡ place queued.now warm.now function from }
+{
     if is_warm(warm, function, from) && queued[from as usize] < QUEUE_LIMIT {
         from
     } else {
@@ -31,7 +43,8 @@ pub fn place(loads: &HostLoads, function: u32, from: u32) -> u32
     }
 }
 
-fn is_warm(warm: &[(u32, u32)], function: u32, host: u32) -> bool
+/// Whether the pair of the function and the host is one of these.
+pub fn is_warm(warm: &[(u32, u32)], function: u32, host: u32) -> bool
     ensures { result ≡ is_warm warm.now function host }
 {
     warm.iter().any(|pair| pair.0 == function && pair.1 == host)

@@ -1,13 +1,13 @@
 -- What is kept beside the records stays theirs.
-use Rattle.std.proofs.Common.{◌≡◌, suc, ◌+◌, ◌∷◌, ◌++◌, [], cond, Some, length, slice_get, refl, sym, ap, subst, ◌∙◌}
-use Rattle.std.specs.Prelude.{◌==◌}
+use Rattle.std.proofs.Common.{◌-◌, arith, ◌≡◌, ◌+◌, Some, length, refl, sym, ap, subst, ◌∙◌}
 use Rattle.faaslet_meaning.specs.declared.call.CallRecord.{CallRecord}
-use Rattle.faaslet_meaning.specs.Lists.{changed}
-use Rattle.faaslet_meaning.specs.Table.{Table, one_more_child, queued_record}
+use Rattle.faaslet_meaning.specs.Table.{Table, queued_record, place_of}
 use Rattle.call_table.specs.Session.{SessionTable}
 use Rattle.call_table.specs.SessionInside.{Indexed}
 use Rattle.call_table.specs.Parent.{IsParent}
-use Rattle.call_table.specs.declared.progress.Progress.{Progress}
+use Rattle.faaslet_meaning.specs.Records.{takes}
+use Rattle.call_table.specs.Loads.{LoadsFit}
+use Rattle.call_table.proofs.Loaded.{loads_child, loads_more, queue_few, takes_within}
 use Rattle.call_table.proofs.Index.{small, child_so}
 use Rattle.call_table.proofs.table.CallTable.add_child.Goals as goal
 
@@ -21,9 +21,58 @@ invariant_of-self-2 c =
     let h = c.self.inside.heads in
     let of : IsParent t c.args.p = subst (λ (s : SessionTable). IsParent s.table c.args.p) (sym c.self.view_is) c.requires.parent in
     let fits = child_so t c.args.p of c.args.function c.args.input.now c.self.inside.progress q h c.self.invariant.indexed c.in_ok-push_child.ensures.few c.add_child.ensures in
+    let made : CallRecord = record (queued_record t c.args.function c.args.p.host c.args.input.now) { request = c.args.p.request; parent = Some c.args.p.call; child = c.args.p.child; depth = c.args.p.depth + 1 } in
+    let placed : c.place-placed.result ≡ place_of t c.args.function c.args.p.host = c.place-placed.ensures ∙ ap (λ (s : SessionTable). place_of s.table c.args.function c.args.p.host) (sym c.self.view_is) in
+    let few_taken = takes_within t.records in
+    let counted = c.self.invariant.indexed.progress_fits.taken_so in
+    let all = c.calls-call.ensures in
+    let spare : c.calls-call.result + 1 - c.self.inside.progress.taken + takes t.records ≡ length t.records + 1 = omega arith in
     let after = sym c.in_ok-push_child.ensures.ok in
     record {
       requests = c.self.invariant.requests;
       indexed = subst (λ (u : Table). Indexed u.records q h) after fits;
+      loads = subst (λ (u : Table). LoadsFit u.hosts u.records c.add.new.self) after
+          (loads_child t of.of c.args.p.call c.self.inside.loads c.reserve.new.self c.add.new.self made c.place-placed.result (c.calls-call.result + 1 - c.self.inside.progress.taken) c.self.invariant.loads of.there refl placed
+          c.reserve.ensures.queued c.reserve.ensures.warm c.reserve.ensures.more c.in_ok-reserve.ensures.ok spare c.add.ensures.queued c.add.ensures.warm);
       hosts = subst (λ (u : Table). length h.at.items ≡ u.hosts) after c.self.invariant.hosts;
+    }
+
+pub overflow_sub-call : goal.overflow_sub-call
+overflow_sub-call c =
+    let t = c.self.inside.store in
+    let a = takes_within t.records in
+    let b = c.self.invariant.indexed.progress_fits.taken_so in
+    let d = c.calls-call.ensures in
+    omega arith
+
+pub add-requires : goal.add-requires
+add-requires c =
+    let t = c.self.inside.store in
+    let l = c.self.inside.loads in
+    let k = c.reserve.new.self in
+    let fit = loads_more t.hosts t.records l k c.self.invariant.loads c.reserve.ensures.queued c.reserve.ensures.warm c.reserve.ensures.more in
+    let a = queue_few t.hosts c.place-placed.result t.records k fit in
+    let n = c.self.invariant.indexed.few in
+    record { few = omega arith }
+
+pub invariant_of-self : goal.invariant_of-self
+invariant_of-self c =
+    let t = c.self.inside.store in
+    record {
+      requests = c.self.invariant.requests;
+      indexed = c.self.invariant.indexed;
+      loads = loads_more t.hosts t.records c.self.inside.loads c.reserve.new.self c.self.invariant.loads c.reserve.ensures.queued c.reserve.ensures.warm c.reserve.ensures.more;
+      hosts = c.self.invariant.hosts;
+    }
+
+pub invariant_of-self-in_err-push_child : goal.invariant_of-self-in_err-push_child
+invariant_of-self-in_err-push_child c =
+    let t = c.self.inside.store in
+    let same = sym c.in_err-push_child.ensures.want in
+    record {
+      requests = c.self.invariant.requests;
+      indexed = subst (λ (u : Table). Indexed u.records c.self.inside.progress c.self.inside.heads) same c.self.invariant.indexed;
+      loads = subst (λ (u : Table). LoadsFit u.hosts u.records c.reserve.new.self) same
+          (loads_more t.hosts t.records c.self.inside.loads c.reserve.new.self c.self.invariant.loads c.reserve.ensures.queued c.reserve.ensures.warm c.reserve.ensures.more);
+      hosts = subst (λ (u : Table). length c.self.inside.heads.at.items ≡ u.hosts) same c.self.invariant.hosts;
     }

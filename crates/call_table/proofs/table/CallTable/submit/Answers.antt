@@ -7,7 +7,6 @@ use Rattle.faaslet_meaning.specs.Records.{is_open, calls_of, bytes_of}
 use Rattle.faaslet_meaning.specs.Table.{TableOperation, submit, has_room}
 use Rattle.call_table.specs.Did.{Did}
 use Rattle.call_table.specs.Parent.{IsChildOf}
-use Rattle.call_table.specs.Made.{Made}
 use Rattle.call_table.specs.Refused.{IsFull}
 use Rattle.call_table.specs.Session.{SessionTable}
 use Rattle.call_table.specs.SessionInside.{session_in}

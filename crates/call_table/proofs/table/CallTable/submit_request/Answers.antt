@@ -1,15 +1,17 @@
 -- The record behind the others is a request's, and an entry of the table.
-use Rattle.std.proofs.Common.{◌≡◌, suc, ◌+◌, cond, true, length, sym, arith, ◌++◌, ◌∷◌, [], refl, subst, ap, ◌∙◌}
+use Rattle.std.proofs.Common.{◌-◌, ◌≡◌, suc, ◌+◌, cond, true, length, sym, arith, ◌++◌, ◌∷◌, [], refl, subst, ap, ◌∙◌}
 use Rattle.faaslet_meaning.specs.declared.call.CallRecord.{CallRecord}
 use Rattle.faaslet_meaning.specs.Channels.{Reply}
 use Rattle.std.specs.Prelude.{◌==◌}
-use Rattle.faaslet_meaning.specs.Records.{is_queued}
-use Rattle.faaslet_meaning.specs.Table.{Table, TableOperation, submit_request}
+use Rattle.faaslet_meaning.specs.Records.{is_queued, takes}
+use Rattle.faaslet_meaning.specs.Table.{Table, queued_record, place_of, TableOperation, submit_request}
 use Rattle.call_table.specs.Made.{Made}
 use Rattle.call_table.specs.Session.{SessionTable}
 use Rattle.call_table.specs.SessionInside.{session_in, Indexed}
 use Rattle.call_table.specs.declared.progress.Progress.{Progress}
 use Rattle.call_table.proofs.Entries.{made}
+use Rattle.call_table.specs.Loads.{LoadsFit}
+use Rattle.call_table.proofs.Loaded.{loads_added, loads_more, queue_few, takes_within}
 use Rattle.call_table.proofs.Index.{small, pushed}
 use Rattle.call_table.proofs.table.CallTable.submit_request.Goals as goal
 
@@ -19,7 +21,7 @@ returns-clause-ok c =
     let new : SessionTable = record old { table = c.push.new.self } in
     let o : TableOperation = submit_request c.args.function c.args.host c.args.input.now in
     let reply : Reply = Reply.number c.calls-call.result in
-    let after = c.in_ok-push.ensures.ok ∙ ap (λ (r : CallRecord). record c.self.inside.store { records = c.self.inside.store.records ++ r ∷ [] }) c.in_ok-queued.ensures.queued in
+    let after = c.in_ok-push.ensures.ok ∙ ap (λ (r : CallRecord). record c.self.inside.store { records = c.self.inside.store.records ++ r ∷ [] }) (c.in_ok-queued.ensures.queued ∙ ap (λ n. record (queued_record c.self.inside.store c.args.function c.args.host c.args.input.now) { request = n }) c.self.invariant.indexed.progress_fits.came_so) in
     subst (λ (s : SessionTable). Made s o new reply) c.self.view_is
     (made old new o reply (record { may_stand = λ m. refl; after_so = λ m. after; reply_so = λ m. ap (λ n. Reply.number n) c.calls-call.ensures }) refl refl tt)
 
@@ -36,6 +38,11 @@ invariant_of-self-2 c =
     let r = c.in_ok-queued.queued in
     let is = c.in_ok-queued.ensures.queued in
     let state = ap (λ (x : CallRecord). is_queued x.state) is in
+    let placed : c.place-placed.result ≡ r.placed = c.place-placed.ensures ∙ ap (λ (s : SessionTable). place_of s.table c.args.function c.args.host) (sym c.self.view_is) ∙ sym (ap (λ (x : CallRecord). x.placed) is) in
+    let few_taken = takes_within t.records in
+    let counted = c.self.invariant.indexed.progress_fits.taken_so in
+    let all = c.calls-call.ensures in
+    let spare : c.calls-call.result + 1 - c.self.inside.progress.taken + takes t.records ≡ length t.records + 1 = omega arith in
     let one : (r.depth == 1) ≡ true = ap (λ (x : CallRecord). x.depth == 1) is in
     let came : q.came ≡ cond (r.depth == 1) (suc p.came) p.came = rw one (ap (λ (x : Progress). x.came) c.add_request.ensures ∙ (let e : p.came + 1 ≡ suc p.came = omega arith in e)) in
     let fits = pushed t.records p q c.self.inside.heads r c.self.invariant.indexed state c.in_ok-push.ensures.few came
@@ -44,5 +51,48 @@ invariant_of-self-2 c =
     record {
       requests = c.self.invariant.requests;
       indexed = subst (λ (u : Table). Indexed u.records q c.self.inside.heads) after fits;
+      loads = subst (λ (u : Table). LoadsFit u.hosts u.records c.add.new.self) after
+          (loads_added t.hosts t.records c.self.inside.loads c.reserve.new.self c.add.new.self r c.place-placed.result (c.calls-call.result + 1 - c.self.inside.progress.taken) c.self.invariant.loads (ap (λ (x : CallRecord). x.state) is) placed
+          c.reserve.ensures.queued c.reserve.ensures.warm c.reserve.ensures.more c.in_ok-reserve.ensures.ok spare c.add.ensures.queued c.add.ensures.warm);
       hosts = subst (λ (u : Table). length c.self.inside.heads.at.items ≡ u.hosts) after c.self.invariant.hosts;
+    }
+
+pub overflow_sub-call : goal.overflow_sub-call
+overflow_sub-call c =
+    let t = c.self.inside.store in
+    let a = takes_within t.records in
+    let b = c.self.invariant.indexed.progress_fits.taken_so in
+    let d = c.calls-call.ensures in
+    omega arith
+
+pub add-requires : goal.add-requires
+add-requires c =
+    let t = c.self.inside.store in
+    let l = c.self.inside.loads in
+    let k = c.reserve.new.self in
+    let fit = loads_more t.hosts t.records l k c.self.invariant.loads c.reserve.ensures.queued c.reserve.ensures.warm c.reserve.ensures.more in
+    let a = queue_few t.hosts c.place-placed.result t.records k fit in
+    let n = c.self.invariant.indexed.few in
+    record { few = omega arith }
+
+pub invariant_of-self : goal.invariant_of-self
+invariant_of-self c =
+    let t = c.self.inside.store in
+    record {
+      requests = c.self.invariant.requests;
+      indexed = c.self.invariant.indexed;
+      loads = loads_more t.hosts t.records c.self.inside.loads c.reserve.new.self c.self.invariant.loads c.reserve.ensures.queued c.reserve.ensures.warm c.reserve.ensures.more;
+      hosts = c.self.invariant.hosts;
+    }
+
+pub invariant_of-self-in_err-push : goal.invariant_of-self-in_err-push
+invariant_of-self-in_err-push c =
+    let t = c.self.inside.store in
+    let same = sym c.in_err-push.ensures.want in
+    record {
+      requests = c.self.invariant.requests;
+      indexed = subst (λ (u : Table). Indexed u.records c.self.inside.progress c.self.inside.heads) same c.self.invariant.indexed;
+      loads = subst (λ (u : Table). LoadsFit u.hosts u.records c.reserve.new.self) same
+          (loads_more t.hosts t.records c.self.inside.loads c.reserve.new.self c.self.invariant.loads c.reserve.ensures.queued c.reserve.ensures.warm c.reserve.ensures.more);
+      hosts = subst (λ (u : Table). length c.self.inside.heads.at.items ≡ u.hosts) same c.self.invariant.hosts;
     }

@@ -1,7 +1,7 @@
 -- The call that was found is the next, and its take an entry of the table.
-use Rattle.std.proofs.Common.{◌≡◌, ◌++◌, Some, true, refl, ap, sym, subst, ◌∙◌}
+use Rattle.std.proofs.Common.{◌≡◌, Some, true, refl, ap, sym, subst, ◌∙◌}
 use Rattle.faaslet_meaning.specs.Channels.{Reply}
-use Rattle.faaslet_meaning.specs.Lists.{first, passes_at}
+use Rattle.faaslet_meaning.specs.Lists.{passes_at}
 use Rattle.faaslet_meaning.specs.Records.{is_queued, queue, queued_calls}
 use Rattle.faaslet_meaning.specs.Table.{TableOperation, next, take_next, taken}
 use Rattle.call_table.specs.Handed.{Handed}
