@@ -1,0 +1,4 @@
+pub mod Holding
+pub mod Opened
+pub mod Answered
+pub mod Tiers

@@ -1,0 +1,13 @@
+//! Regions by key that threads take in turns: what the tier of a host and the tier of all hosts have in common.
+#![tactic(auto)]
+
+mod attempt;
+mod cells;
+mod closing;
+mod making;
+mod opening;
+mod rows;
+mod slots;
+mod tier;
+
+pub use cells::{Passes, Tier};
