@@ -28,7 +28,7 @@ one_schedule plan seed es fs h k = one_from h k
 
 -- ---- What is picked may stand.
 
-may_stand : (plan : Plan) (w : World) (n : ℕ) (e : Event) → slice_get (offered plan w) n ≡ Some e → why w e ≡ None
+pub may_stand : (plan : Plan) (w : World) (n : ℕ) (e : Event) → slice_get (offered plan w) n ≡ Some e → why w e ≡ None
 may_stand plan w n e at = none_of (why w e) (and_parts (is_none (why w e)) (offers plan w e) (filter_there (λ e. is_none (why w e) && offers plan w e) (all_events w) n e at)).0
   where
     none_of : (o : Option Why) → is_none o ≡ true → o ≡ None

@@ -29,6 +29,6 @@ pub use plan_laws::{
 };
 pub use ran_laws::{ran_has_own_sections, ran_two_worlds};
 pub use report_laws::{cut_report, report_is_lines};
-pub use session_laws::{calls_rest, histories_lead, one_schedule, schedule_stands};
+pub use session_laws::{calls_rest, has_schedule, histories_lead, one_schedule, schedule_stands};
 pub use table_cut_laws::cut_of_history;
 pub use world_laws::{calls_ran, have_own_sections, have_sections};

@@ -10,6 +10,7 @@ ghost use Rattle.session_meaning.specs.Keeping.{HistoriesLead};
 ghost use Rattle.session_meaning.specs.OpenCall.{is_running, quiet};
 ghost use Rattle.session_meaning.specs.Plan.{Plan};
 ghost use Rattle.session_meaning.specs.Schedule.{offered, Schedule};
+ghost use Rattle.session_meaning.specs.WellFormed.{WellFormed};
 ghost use Rattle.session_meaning.specs.World.{World};
 
 /// In every world each history is legal and leads to what is there.
@@ -36,4 +37,9 @@ pub fn schedule_stands()
 pub fn one_schedule()
     ensures { (plan : Plan) (seed : ℕ) (es fs : List Event)
         → Schedule plan seed es → Schedule plan seed fs → es ≡ fs }
+{}
+
+/// Of a well-formed plan each seed picks a list of events: a trace ends.
+pub fn has_schedule()
+    ensures { (plan : Plan) (seed : ℕ) → WellFormed plan → (es : List Event) × Schedule plan seed es }
 {}
