@@ -59,6 +59,7 @@ pub mod RanSections
 pub mod RanTables
 pub mod RanSubmits
 pub mod RanParts
+pub mod TraceWeights
 pub mod TraceEnds
 mod WorldRuns
 mod TraceRuns
