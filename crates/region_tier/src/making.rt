@@ -20,6 +20,7 @@ impl Tier {
         requires { 0 < numbers }
         ensures cells { IfOk result (λ r. (length (cells_of r.0) ≡ length sizes.now) × AreReplicas sizes.now numbers (cells_of r.0)) }
         ensures passes { IfOk result (λ r. AreFreshRows (cells_of r.0) numbers r.1.items) }
+        ensures makers { IfOk result (λ r. numbers_in r.0 ≡ numbers) }
     {
         let (mut tier, mut passes) = Tier::empty(alloc, sizes.len(), numbers)?;
         for size in sizes {
@@ -42,6 +43,7 @@ impl Tier {
         requires fit { Each values.now (λ k v. length v.1 ≤ v.0) }
         ensures cells { IfOk result (λ r. (length (cells_of r.0) ≡ length values.now) × AreGlobals values.now numbers (cells_of r.0)) }
         ensures passes { IfOk result (λ r. AreFreshRows (cells_of r.0) numbers r.1.items) }
+        ensures makers { IfOk result (λ r. numbers_in r.0 ≡ numbers) }
     {
         let (mut tier, mut passes) = Tier::empty(alloc, values.len(), numbers)?;
         for value in values {
