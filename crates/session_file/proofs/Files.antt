@@ -1,5 +1,5 @@
 -- What a file is answered.
-use Rattle.std.proofs.Common.{◌≡◌, ◌≢◌, ℕ, ◌<◌, ◌≤◌, List, length, Option, Some, None, is_some, Result, Ok, Err, IfOk, IfErr, IsUtf8, sym, ap, ◌∙◌, subst, true≢false}
+use Rattle.std.proofs.Common.{◌≡◌, ℕ, ◌<◌, ◌≤◌, List, length, Option, Some, None, is_some, Result, Ok, Err, IfOk, IfErr, IsUtf8, sym, ap, ◌∙◌, subst, true≢false}
 use Rattle.std.specs.Option.{ForSome}
 use Rattle.serde_json.specs.Data.{Data}
 use Rattle.serde_json.specs.Read.{read}
