@@ -23,8 +23,9 @@ use Rattle.wasm_validate.specs.declared.invalid.Invalid.TheVariants as cause
 use Rattle.faasm_top.specs.declared.report.Report.{Report}
 use Rattle.faasm_top.specs.declared.words.Command as commands
 use Rattle.faasm_top.specs.declared.words.Command.TheVariants.{Check, Call, Trace, Run, Load}
-use Rattle.faasm_top.specs.Answers.{code_of, status_of, file_of, IsAccepted, IsRefusal, too_long, malformed, float, limit, invalid, untyped, ReadsFile, IsDue, valid, ran, unfit, other, DueToModule, DueToCalls}
+use Rattle.faasm_top.specs.Answers.{code_of, status_of, file_of, first_file_of, ReadsFile, IsDue, valid, ran, unfit, other, DueToModule, DueToCalls}
 use Rattle.faasm_top.specs.Commands.{command_of}
+use Rattle.faasm_top.specs.ModuleFiles.{IsAccepted, IsRefusal, too_long, malformed, float, limit, invalid, untyped}
 use Rattle.faasm_top.specs.Refusals.{undecoded_line, invalid_line, unfit_line}
 use Rattle.faasm_top.proofs.OneLine.{same_name}
 
@@ -116,15 +117,15 @@ words_due c words told before after (Ok x) is due = due words is
 words_due c words told before after (Err e) is due = tt
 
 -- a command that reads no file
-pub no_file : (c : Command) (words : List (List ℕ)) → (ReadsFile words → ⊥) → CommandOf c words → file_of c ≡ None
-no_file c words none is = by (file_of c) refl
+pub no_file : (c : Command) (words : List (List ℕ)) → (ReadsFile words → ⊥) → CommandOf c words → first_file_of c ≡ None
+no_file c words none is = by (first_file_of c) refl
   where
-    by : (o : Option (List ℕ)) → file_of c ≡ o → file_of c ≡ None
+    by : (o : Option (List ℕ)) → first_file_of c ≡ o → first_file_of c ≡ None
     by None e = e
     by (Some f) e = absurd (none (record { command = c; is_command = is; file = f; is_named = e }))
 
 -- where the words are one that does it is left open
-pub reader_open : {E : Type 0} (c : Command) (words : List (List ℕ)) (Open : Type 0) (r : Result Report E) → CommandOf c words → IfOk r (λ x. (file_of c ≡ None → ⊥) → (code_of x.status ≡ 4 → ⊥) → Open)
+pub reader_open : {E : Type 0} (c : Command) (words : List (List ℕ)) (Open : Type 0) (r : Result Report E) → CommandOf c words → IfOk r (λ x. (first_file_of c ≡ None → ⊥) → (code_of x.status ≡ 4 → ⊥) → Open)
     → IfOk r (λ x. ReadsFile words → (code_of x.status ≡ 4 → ⊥) → Open)
 reader_open c words Open (Ok x) is opens = λ reads calm. opens (λ none. (let e = same_name words c reads is in let f = reads.is_named in cc)) calm
 reader_open c words Open (Err e) is opens = tt

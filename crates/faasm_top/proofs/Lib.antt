@@ -5,5 +5,7 @@ pub mod Dues
 pub mod Events
 pub mod Inputs
 pub mod OneLine
+pub mod OneSession
+pub mod Sessions
 pub mod Snapshots
 pub mod Unfits

@@ -1,5 +1,6 @@
 -- Where the files are told and the shelf did not fail, one line is due.
-use Rattle.std.proofs.Common.{◌≡◌, ℕ, ◌<◌, List, Option, Some, refl, sym, ap, subst, ◌∙◌, arith, ◌⊎◌, inl, inr}
+use Rattle.std.proofs.Common.{◌≡◌, ℕ, ◌<◌, List, Option, Some, None, refl, sym, ap, subst, ◌∙◌, arith, ◌⊎◌, inl, inr}
+use Rattle.std.specs.Prelude.{unwrap_or}
 use Rattle.fa_outside.specs.Faults.{Rose}
 use Rattle.fa_outside.specs.Files.{Files, file_named}
 use Rattle.faaslet_meaning.specs.declared.module.Module.{Module}
@@ -12,70 +13,17 @@ use Rattle.faaslet_meaning.specs.Runs.{Runs}
 use Rattle.faaslet_meaning.specs.Productions.{NoSpelling}
 use Rattle.faaslet_meaning.specs.Runnable.{Runnable, IsUnfit}
 use Rattle.faaslet_meaning.specs.Valid.{RulesHold, FirstUntyped}
-use Rattle.faaslet_meaning.specs.Words.{Command, call, check, CommandOf, call_function}
+use Rattle.faaslet_meaning.specs.Words.{Command, call, check, trace, CommandOf, call_function}
 use Rattle.faaslet_meaning.proofs.OneAnswer.{one_answer}
 use Rattle.faaslet_meaning.proofs.OneCommand.{one_command}
 use Rattle.faaslet_meaning.proofs.OneModule.{one_module}
 use Rattle.faaslet_meaning.proofs.One.{one_run}
-use Rattle.faasm_top.specs.Answers.{status_of, file_of, IsAccepted, IsRefusal, too_long, malformed, float, limit, invalid, untyped, Reads, IsValid, ReadsFile, CallsModule, IsRun, IsUnfitCall, IsRefused, IsLater, IsOther, IsDue, valid, ran, usage, refused, later, unfit, other, read_fault}
+use Rattle.faasm_top.specs.Answers.{status_of, file_of, first_file_of, Reads, IsValid, ReadsFile, CallsModule, IsRun, IsUnfitCall, IsRefused, IsLater, IsTraced, IsOther, IsDue, valid, ran, usage, refused, later, traced, unfit, other, read_fault}
+use Rattle.faasm_top.specs.ModuleFiles.{IsAccepted, IsRefusal}
 use Rattle.faasm_top.specs.Refusals.{unfit_line}
+use Rattle.faasm_top.specs.Sessions.{SessionComes}
+use Rattle.faasm_top.proofs.OneSession.{one_refusal, not_refused, same_content, one_session}
 use Rattle.faasm_top.proofs.Unfits.{one_reason, not_unfit}
-
--- ---- the bytes of a file
-
--- what `decode` says of bytes that are refused
-abbrev Why : Decoded → List ℕ → Type 0
-Why decoding.too_long line = line ≡ report.too_long
-Why decoding.malformed line = line ≡ report.malformed
-Why decoding.float line = line ≡ report.float
-Why (decoding.limit l) line = line ≡ report.limit l
-Why (decoding.accepted m) line = ((RulesHold m → ⊥) × (line ≡ report.invalid_module)) ⊎ ((k : ℕ) × FirstUntyped m k × (line ≡ report.invalid_function k))
-
-record IsWhy (bytes line : List ℕ) : Type 0 where
-  decoded : Decoded
-  decodes : DecodesTo decoded bytes
-  why : Why decoded line
-
-why_of : (bytes line : List ℕ) → IsRefusal bytes line → IsWhy bytes line
-why_of bytes line (too_long d e) = record { decoded = decoding.too_long; decodes = d; why = e }
-why_of bytes line (malformed d e) = record { decoded = decoding.malformed; decodes = d; why = e }
-why_of bytes line (float d e) = record { decoded = decoding.float; decodes = d; why = e }
-why_of bytes line (limit l d e) = record { decoded = decoding.limit l; decodes = d; why = e }
-why_of bytes line (invalid m d r e) = record { decoded = decoding.accepted m; decodes = d; why = inl (r, e) }
-why_of bytes line (untyped m k d f e) = record { decoded = decoding.accepted m; decodes = d; why = inr (k, f, e) }
-
--- a module has one first untyped body
-one_first : (m : Module) (j k : ℕ) → FirstUntyped m j → FirstUntyped m k → j ≡ k
-one_first m j k p q =
-    let not_below : j < k → ⊥ = λ less. p.untyped (q.before j less) in
-    let not_above : k < j → ⊥ = λ less. q.untyped (p.before k less) in
-    omega (arith, not_below, not_above)
-
-one_why : (d : Decoded) (l m : List ℕ) → Why d l → Why d m → l ≡ m
-one_why decoding.too_long l m p q = p ∙ sym q
-one_why decoding.malformed l m p q = p ∙ sym q
-one_why decoding.float l m p q = p ∙ sym q
-one_why (decoding.limit k) l m p q = p ∙ sym q
-one_why (decoding.accepted c) l m (inl p) (inl q) = p.1 ∙ sym q.1
-one_why (decoding.accepted c) l m (inl p) (inr (k, f, e)) = absurd (p.0 f.rules)
-one_why (decoding.accepted c) l m (inr (k, f, e)) (inl q) = absurd (q.0 f.rules)
-one_why (decoding.accepted c) l m (inr (j, f, e)) (inr (k, g, h)) = e ∙ ap report.invalid_function (one_first c j k f g) ∙ sym h
-
-one_refusal : (bytes l m : List ℕ) → IsRefusal bytes l → IsRefusal bytes m → l ≡ m
-one_refusal bytes l m p q =
-    let a = why_of bytes l p in
-    let b = why_of bytes m q in
-    one_why b.decoded l m (subst (λ d. Why d l) (one_answer a.decoded b.decoded bytes a.decodes b.decodes) a.why) b.why
-
--- a file that is accepted is not refused
-not_refused : (bytes line : List ℕ) (m : Module) → IsAccepted m bytes → IsRefusal bytes line → ⊥
-not_refused bytes line m p q =
-    let w = why_of bytes line q in
-    by (subst (λ d. Why d line) (one_answer w.decoded (decoding.accepted m) bytes w.decodes p.decodes) w.why)
-  where
-    by : Why (decoding.accepted m) line → ⊥
-    by (inl r) = r.0 p.valid.rules
-    by (inr (k, f, e)) = f.untyped (p.valid.bodies_typed k)
 
 -- ---- the words and their file
 
@@ -86,11 +34,8 @@ check_call : {A : Type 0} (f g i : List ℕ) (n : ℕ) → check f ≡ call g i 
 check_call f g i n e = absurd cc
 
 -- the file of a command is that of the words
-pub same_name : (words : List (List ℕ)) (c : Command) (reads : ReadsFile words) → CommandOf c words → file_of c ≡ file_of reads.command
-same_name words c reads is = ap file_of (one_command words c reads.command is reads.is_command)
-
-same_content : (a b : List ℕ) (o : Option (List ℕ)) → o ≡ Some a → o ≡ Some b → a ≡ b
-same_content a b o p q = cc
+pub same_name : (words : List (List ℕ)) (c : Command) (reads : ReadsFile words) → CommandOf c words → first_file_of c ≡ first_file_of reads.command
+same_name words c reads is = ap first_file_of (one_command words c reads.command is reads.is_command)
 
 -- two readings of one list of words have one command and the same bytes
 same_bytes : (words : List (List ℕ)) (files : Files) (c d : Command) (a b : List ℕ) → Reads words (Some files) c a → Reads words (Some files) d b → (c ≡ d) × (a ≡ b)
@@ -148,12 +93,21 @@ split words files c bytes line m reads accepted q =
     let same = same_bytes words files c q.command bytes q.bytes reads q.reads in
     not_refused q.bytes line m (subst (λ b. IsAccepted m b) same.1 accepted) q.refusal
 
+-- a command with a file of a module has a first file
+first_named : (c : Command) (file : List ℕ) → file_of c ≡ Some file → first_file_of c ≡ None → ⊥
+first_named c file e f = by c e f
+  where
+    by : (d : Command) → file_of d ≡ Some file → first_file_of d ≡ None → ⊥
+    by (check g) e f = absurd cc
+    by (call g i n) e f = absurd cc
+    by (trace g n) e f = absurd cc
+    by d e f = absurd cc
+
 -- a command that reads a file is built
 built : (words : List (List ℕ)) (told : Option Files) (c : Command) (bytes : List ℕ) → Reads words told c bytes → IsLater words → ⊥
 built words told c bytes reads q =
     let same = one_command words c q.command reads.is_command q.is_command in
-    let named = sym reads.is_named ∙ ap file_of same ∙ q.no_file in
-    absurd cc
+    first_named c reads.file reads.is_named (ap first_file_of same ∙ q.no_file)
 
 -- `check` is no `call`
 apart : {A : Type 0} (words : List (List ℕ)) (told : Option Files) (f g i a b : List ℕ) (n : ℕ) → Reads words told (check f) a → Reads words told (call g i n) b → A
@@ -171,6 +125,26 @@ call_apart words told m input fuel p q = apart words told p.file q.file input p.
 
 call_words : (words : List (List ℕ)) (told : Option Files) (m : Module) (input : List ℕ) (fuel : ℕ) → NoSpelling CommandOf words → CallsModule words told m input fuel → ⊥
 call_words words told m input fuel none p = none.none (call p.file input fuel) p.reads.is_command
+
+-- `trace` reads no file of a module, is built, and has one line
+traced_reads : (words : List (List ℕ)) (told : Option Files) (line : List ℕ) (c : Command) (bytes : List ℕ) → IsTraced words told line → Reads words told c bytes → ⊥
+traced_reads words told line c bytes p q =
+    let named : file_of (trace p.file p.seed) ≡ Some q.file = ap file_of (one_command words (trace p.file p.seed) c p.is_command q.is_command) ∙ q.is_named in
+    absurd cc
+
+traced_later : (words : List (List ℕ)) (told : Option Files) (line : List ℕ) → IsTraced words told line → IsLater words → ⊥
+traced_later words told line p q =
+    let named : first_file_of (trace p.file p.seed) ≡ None = ap first_file_of (one_command words (trace p.file p.seed) q.command p.is_command q.is_command) ∙ q.no_file in
+    absurd cc
+
+same_trace : (f g : List ℕ) (m n : ℕ) → trace f m ≡ trace g n → f ≡ g
+same_trace f g m n e = cc
+
+traced_once : (words : List (List ℕ)) (files : Files) (l m : List ℕ) → IsTraced words (Some files) l → IsTraced words (Some files) m → l ≡ m
+traced_once words files l m p q =
+    let file = same_trace p.file q.file p.seed q.seed (one_command words (trace p.file p.seed) (trace q.file q.seed) p.is_command q.is_command) in
+    let same = one_session files q.file p.answer q.answer (subst (λ f. SessionComes (Some files) f p.answer) file p.comes) q.comes in
+    p.is_line ∙ ap (λ a. unwrap_or a report.not_built) same ∙ sym q.is_line
 
 refused_once : (words : List (List ℕ)) (files : Files) (l m : List ℕ) → IsRefused words (Some files) l → IsRefused words (Some files) m → l ≡ m
 refused_once words files l m p q =
@@ -230,3 +204,18 @@ one_line words files before after s t l m calm (other p a b) (refused q c) = abs
 one_line words files before after s t l m calm (other p a b) (later q c d) = (a ∙ sym c, b ∙ sym d)
 one_line words files before after s t l m calm (other p a b) (unfit q c) = absurd (other_unfit words files m p q)
 one_line words files before after s t l m calm (other p a b) (other q c d) = (a ∙ sym c, b ∙ sym d)
+one_line words files before after s t l m calm (valid p a b) (traced q c) = absurd (traced_reads words (Some files) m (check p.file) p.bytes q p.reads)
+one_line words files before after s t l m calm (ran p) (traced q c) = absurd (traced_reads words (Some files) m (call p.calls.file p.input p.fuel) p.calls.bytes q p.calls.reads)
+one_line words files before after s t l m calm (usage p a b) (traced q c) = absurd (p.none (trace q.file q.seed) q.is_command)
+one_line words files before after s t l m calm (refused p a) (traced q c) = absurd (traced_reads words (Some files) m p.command p.bytes q p.reads)
+one_line words files before after s t l m calm (later p a b) (traced q c) = absurd (traced_later words (Some files) m q p)
+one_line words files before after s t l m calm (unfit p a) (traced q c) = absurd (traced_reads words (Some files) m (call p.calls.file p.input p.fuel) p.calls.bytes q p.calls.reads)
+one_line words files before after s t l m calm (other p a b) (traced q c) = absurd (traced_reads words (Some files) m (call p.calls.file p.input p.fuel) p.calls.bytes q p.calls.reads)
+one_line words files before after s t l m calm (traced p a) (valid q c d) = absurd (traced_reads words (Some files) l (check q.file) q.bytes p q.reads)
+one_line words files before after s t l m calm (traced p a) (ran q) = absurd (traced_reads words (Some files) l (call q.calls.file q.input q.fuel) q.calls.bytes p q.calls.reads)
+one_line words files before after s t l m calm (traced p a) (usage q c d) = absurd (q.none (trace p.file p.seed) p.is_command)
+one_line words files before after s t l m calm (traced p a) (refused q c) = absurd (traced_reads words (Some files) l q.command q.bytes p q.reads)
+one_line words files before after s t l m calm (traced p a) (later q c d) = absurd (traced_later words (Some files) l p q)
+one_line words files before after s t l m calm (traced p a) (unfit q c) = absurd (traced_reads words (Some files) l (call q.calls.file q.input q.fuel) q.calls.bytes p q.calls.reads)
+one_line words files before after s t l m calm (traced p a) (other q c d) = absurd (traced_reads words (Some files) l (call q.calls.file q.input q.fuel) q.calls.bytes p q.calls.reads)
+one_line words files before after s t l m calm (traced p a) (traced q c) = (a ∙ sym c, traced_once words files l m p q)

@@ -1,7 +1,7 @@
 -- What is due to the words and the files: a line, and the status that goes with it. This project's own.
 -- PROVISIONAL: of the commands `check` and `call` do their work, and of the modules that a function may have those without
--- imports run.
-use Rattle.std.specs.Prelude.{◌≡◌, ◌≢◌, ℕ, ◌≤◌, Bool, false, List, [], Option, Some, None, IsSome, IsTrue}
+-- imports run; `trace` says why a session is refused, and runs none.
+use Rattle.std.specs.Prelude.{◌≡◌, ◌≢◌, ℕ, ◌≤◌, Bool, false, List, [], Option, Some, None, IsSome, IsTrue, unwrap_or}
 use Rattle.fa_outside.specs.Appended.{Appends, AppendsPart}
 use Rattle.fa_outside.specs.Faults.{Rose}
 use Rattle.fa_outside.specs.Files.{Files, IsFile}
@@ -9,17 +9,16 @@ use Rattle.faaslet_meaning.specs.declared.module.Module.{Module}
 use Rattle.faaslet_meaning.specs.declared.outcome.Outcome.{Outcome}
 use Rattle.faaslet_meaning.specs.declared.outcome.Outcome.TheVariants as outcomes
 use Rattle.faaslet_meaning.specs.Channels.{told_nothing}
-use Rattle.faaslet_meaning.specs.Decoding.{Limit, DecodesTo}
-use Rattle.faaslet_meaning.specs.Decoding as decoding
 use Rattle.faaslet_meaning.specs.Productions.{NoSpelling}
 use Rattle.faaslet_meaning.specs.Report as report
 use Rattle.faaslet_meaning.specs.Runnable.{Runnable, Unfit, IsUnfit}
 use Rattle.faaslet_meaning.specs.Runs.{Runs}
-use Rattle.faaslet_meaning.specs.Valid.{RulesHold, FirstUntyped, Valid}
-use Rattle.faaslet_meaning.specs.Words.{Command, check, call, CommandOf, call_function}
+use Rattle.faaslet_meaning.specs.Words.{Command, check, call, trace, CommandOf, call_function}
 use Rattle.faasm_top.specs.declared.report.Status.{Status}
 use Rattle.faasm_top.specs.declared.report.Status.TheVariants.{Done, NotDone, Usage, Refused, ShelfFailed, SinkFailed, Want}
+use Rattle.faasm_top.specs.ModuleFiles.{IsAccepted, IsRefusal}
 use Rattle.faasm_top.specs.Refusals.{unfit_line}
+use Rattle.faasm_top.specs.Sessions.{SessionComes}
 
 -- the statuses
 abbrev pub code_of : Status → ℕ
@@ -36,30 +35,18 @@ abbrev pub status_of : Outcome → ℕ
 status_of (outcomes.Done code) = 0
 status_of _ = 1
 
--- ---- What is said of the bytes of a file.
-
--- they hold this module, which keeps all rules
-pub record IsAccepted (code : Module) (bytes : List ℕ) : Type 0 where
-  pub decodes : DecodesTo (decoding.accepted code) bytes
-  pub valid : Valid code
-
--- They hold no such module, and this is the line of the first reason: their length, the grammar, floats, a limit, a rule
--- of modules, the typing of a body.
-pub data IsRefusal (bytes line : List ℕ) : Type 0 where
-  too_long : DecodesTo decoding.too_long bytes → line ≡ report.too_long → IsRefusal bytes line
-  malformed : DecodesTo decoding.malformed bytes → line ≡ report.malformed → IsRefusal bytes line
-  float : DecodesTo decoding.float bytes → line ≡ report.float → IsRefusal bytes line
-  limit : (passed : Limit) → DecodesTo (decoding.limit passed) bytes → line ≡ report.limit passed → IsRefusal bytes line
-  invalid : (code : Module) → DecodesTo (decoding.accepted code) bytes → (RulesHold code → ⊥) → line ≡ report.invalid_module → IsRefusal bytes line
-  untyped : (code : Module) (k : ℕ) → DecodesTo (decoding.accepted code) bytes → FirstUntyped code k → line ≡ report.invalid_function k → IsRefusal bytes line
-
 -- ---- What the words ask.
 
--- the file of a module that a command reads; the commands that read none aren't built yet
+-- the file of a module that a command reads
 abbrev pub file_of : Command → Option (List ℕ)
 file_of (check file) = Some file
 file_of (call file input fuel) = Some file
 file_of _ = None
+
+-- the file that a command reads first, of a module or of a session; the commands that read none aren't built yet
+abbrev pub first_file_of : Command → Option (List ℕ)
+first_file_of (trace file seed) = Some file
+first_file_of command = file_of command
 
 -- the words are this command, and its file holds these bytes, where that is told
 pub record Reads (words : List (List ℕ)) (told : Option Files) (command : Command) (bytes : List ℕ) : Type 0 where
@@ -73,7 +60,7 @@ pub record ReadsFile (words : List (List ℕ)) : Type 0 where
   pub command : Command
   pub is_command : CommandOf command words
   pub file : List ℕ
-  pub is_named : file_of command ≡ Some file
+  pub is_named : first_file_of command ≡ Some file
 
 -- ---- What is due.
 
@@ -129,7 +116,16 @@ pub record IsRefused (words : List (List ℕ)) (told : Option Files) (line : Lis
 pub record IsLater (words : List (List ℕ)) : Type 0 where
   pub command : Command
   pub is_command : CommandOf command words
-  pub no_file : file_of command ≡ None
+  pub no_file : first_file_of command ≡ None
+
+-- `trace`: the line of the first refusal of its session, or that nothing is run yet where there is none
+pub record IsTraced (words : List (List ℕ)) (told : Option Files) (line : List ℕ) : Type 0 where
+  pub file : List ℕ
+  pub seed : ℕ
+  pub is_command : CommandOf (trace file seed) words
+  pub answer : Option (List ℕ)
+  pub comes : SessionComes told file answer
+  pub is_line : line ≡ unwrap_or answer report.not_built
 
 -- `call` of a module with imports that a function may have
 pub record IsOther (words : List (List ℕ)) (told : Option Files) : Type 0 where
@@ -140,7 +136,7 @@ pub record IsOther (words : List (List ℕ)) (told : Option Files) : Type 0 wher
   pub runnable : Runnable code
   pub imports : code.imports ≢ []
 
--- `check` or `call`, and the shelf's count rose
+-- a command that reads a file, and the shelf's count rose
 pub record IsReadFault (words : List (List ℕ)) (before after : ℕ) : Type 0 where
   pub reads : ReadsFile words
   pub rose : Rose before after
@@ -152,6 +148,7 @@ pub data IsDue (words : List (List ℕ)) (told : Option Files) (before after : �
   usage : NoSpelling CommandOf words → status ≡ 2 → line ≡ report.usage → IsDue words told before after status line
   refused : IsRefused words told line → status ≡ 3 → IsDue words told before after status line
   later : IsLater words → status ≡ 3 → line ≡ report.not_built → IsDue words told before after status line
+  traced : IsTraced words told line → status ≡ 3 → IsDue words told before after status line
   unfit : IsUnfitCall words told line → status ≡ 3 → IsDue words told before after status line
   other : IsOther words told → status ≡ 3 → line ≡ report.not_built → IsDue words told before after status line
   read_fault : IsReadFault words before after → status ≡ 4 → line ≡ report.read_fault → IsDue words told before after status line
@@ -172,8 +169,8 @@ pub record WritesWhole (words : List (List ℕ)) (told : Option Files) (before a
   pub is_due : IsDue words told before after status line
   pub appends : Appends old new line
 
--- What is left of the shelf where a line with this status is due: after a read fault nothing is open; otherwise the file
--- of the command is, and after 0 and 1 it was read to its end.
+-- What is left of the shelf where a line with this status is due: after a read fault nothing is open; otherwise the last
+-- file that the command read is, and after 0 and 1 it was read to its end.
 pub record Leaves (words : List (List ℕ)) (told : Option Files) (status : ℕ) (is_open : Bool) (rest : List ℕ) : Type 0 where
   pub closed : status ≡ 4 → is_open ≡ false
   pub ended : status ≤ 1 → IsSome told → rest ≡ []

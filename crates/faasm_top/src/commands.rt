@@ -6,38 +6,21 @@ ghost use Rattle.fa_outside.specs.Faults.{Rose};
 ghost use Rattle.fa_outside.specs.Files.{Files};
 ghost use Rattle.faaslet_meaning.specs.Decoding.{first_passed};
 ghost use Rattle.faaslet_meaning.specs.Words.{CommandOf};
-ghost use Rattle.faasm_top.specs.Answers.{code_of, file_of, IsAccepted, IsRefusal, ReadsFile, IsDue, DueToModule, DueToCalls, WritesWhole, WritesPart};
+ghost use Rattle.faasm_top.specs.Answers.{code_of, file_of, first_file_of, ReadsFile, IsDue, DueToModule, DueToCalls, WritesWhole, WritesPart};
 ghost use Rattle.faasm_top.specs.Commands.{texts, command_of};
 
+use crate::module_files::{MODULE_LIMIT, read_valid};
 use crate::outcomes::ended;
-use crate::refusals::{invalid, undecoded, unfit};
+use crate::refusals::{undecoded, unfit};
 use crate::report::{Report, Status, not_built, read_fault, usage, valid};
 use crate::run::run;
+use crate::trace::trace;
 use crate::words::{Command, WordsFault, read_words};
 use fa_outside::{Failed, ReadFault, Shelf, Sink, read_file, write_whole};
 use function_rules::fits;
 use std::alloc::{AllocError, Global};
-use wasm_decode::{DecodeFault, decode};
-use wasm_validate::{ValidModule, validate};
-
-/// The bytes of a module file.
-const MODULE_LIMIT: usize = 4_194_304;
-
-/// The module in these bytes where it is valid, else the line of the first reason against it.
-fn read_valid(alloc: Global, bytes: &[u8]) -> Result<Result<ValidModule, Report>, AllocError>
-    ensures accepted { IfOk result (λ r. IfOk r (λ code. IsAccepted code bytes.now)) }
-    ensures refused { IfOk result (λ r. IfErr r (λ x. IsRefusal bytes.now (string_bytes x.line))) }
-    ensures status { IfOk result (λ r. IfErr r (λ x. code_of x.status ≡ 3)) }
-{
-    let module = match decode(alloc, bytes) {
-        Ok(module) => module,
-        Err(fault) => return Ok(Err(undecoded(alloc, fault)?)),
-    };
-    match validate(alloc, module) {
-        Ok(module) => Ok(Ok(module)),
-        Err(refused) => Ok(Err(invalid(alloc, refused.fault)?)),
-    }
-}
+use wasm_decode::DecodeFault;
+use wasm_validate::ValidModule;
 
 /// Answers a call of a valid module, whatever its input.
 fn call_module(alloc: Global, module: &ValidModule, fuel: u64) -> Result<Report, AllocError>
@@ -72,21 +55,22 @@ fn answer_module(alloc: Global, bytes: &[u8], command: &Command<'_>) -> Result<R
     }
 }
 
-/// Answers a command.
-fn answer_command<F: Shelf>(
+/// Answers a command that reads no session.
+fn answer_other<F: Shelf>(
     alloc: Global,
     shelf: &mut F,
     command: &Command<'_>,
 ) -> Result<Report, AllocError>
+    requires { first_file_of (command_of command.now) ≡ file_of (command_of command.now) }
     ensures due { IfOk result (λ r. (words : List (List ℕ))
         → CommandOf (command_of command.now) words
         → IsDue words (F.told shelf.old) (F.faults shelf.old) (F.faults shelf.new)
         (code_of r.status) (string_bytes r.line)) }
-    ensures untouched { file_of (command_of command.now) ≡ None → shelf.new ≡ shelf.old }
+    ensures untouched { first_file_of (command_of command.now) ≡ None → shelf.new ≡ shelf.old }
     ensures closed { IfOk result (λ r. code_of r.status ≡ 4 → F.is_open shelf.new ≡ false) }
     ensures ended { IfOk result (λ r. code_of r.status ≤ 1
         → IsSome (F.told shelf.old) → F.rest shelf.new ≡ []) }
-    ensures left_open { IfOk result (λ r. file_of (command_of command.now) ≢ None
+    ensures left_open { IfOk result (λ r. first_file_of (command_of command.now) ≢ None
         → code_of r.status ≢ 4 → IsTrue (F.is_open shelf.new)) }
     ensures told { F.told shelf.new ≡ F.told shelf.old }
     ensures counted { F.faults shelf.old ≤ F.faults shelf.new }
@@ -101,6 +85,31 @@ fn answer_command<F: Shelf>(
         Err(ReadFault::Want) => return Err(AllocError),
     };
     answer_module(alloc, &bytes, command)
+}
+
+/// Answers a command.
+fn answer_command<F: Shelf>(
+    alloc: Global,
+    shelf: &mut F,
+    command: &Command<'_>,
+) -> Result<Report, AllocError>
+    ensures due { IfOk result (λ r. (words : List (List ℕ))
+        → CommandOf (command_of command.now) words
+        → IsDue words (F.told shelf.old) (F.faults shelf.old) (F.faults shelf.new)
+        (code_of r.status) (string_bytes r.line)) }
+    ensures untouched { first_file_of (command_of command.now) ≡ None → shelf.new ≡ shelf.old }
+    ensures closed { IfOk result (λ r. code_of r.status ≡ 4 → F.is_open shelf.new ≡ false) }
+    ensures ended { IfOk result (λ r. code_of r.status ≤ 1
+        → IsSome (F.told shelf.old) → F.rest shelf.new ≡ []) }
+    ensures left_open { IfOk result (λ r. first_file_of (command_of command.now) ≢ None
+        → code_of r.status ≢ 4 → IsTrue (F.is_open shelf.new)) }
+    ensures told { F.told shelf.new ≡ F.told shelf.old }
+    ensures counted { F.faults shelf.old ≤ F.faults shelf.new }
+{
+    match command {
+        Command::Trace { file, .. } => trace(alloc, shelf, file),
+        _ => answer_other(alloc, shelf, command),
+    }
 }
 
 /// The line that is due to the words, and its status.

@@ -3,10 +3,15 @@
 
 mod commands;
 mod finish;
+mod module_files;
 mod outcomes;
 mod refusals;
 mod report;
 mod run;
+mod session_lines;
+mod session_modules;
+mod stop;
+mod trace;
 mod words;
 
 pub use commands::{answer, one_line};

@@ -9,6 +9,8 @@ mod check_tests;
 #[cfg(test)]
 mod host_tests;
 #[cfg(test)]
+mod session_tests;
+#[cfg(test)]
 mod tests;
 #[cfg(test)]
 mod word_tests;

@@ -1,6 +1,6 @@
 use Rattle.std.specs.String.{string_bytes}
 use Rattle.faasm_top.proofs.Dues.{undecoded_is, invalid_is}
-use Rattle.faasm_top.proofs.commands.read_valid.Goals as goal
+use Rattle.faasm_top.proofs.module_files.read_valid.Goals as goal
 
 pub returns-in-Err-clause-refused : goal.returns-in-Err-clause-refused
 returns-in-Err-clause-refused c = undecoded_is c.in-Err.fault c.args.bytes.now (string_bytes c.in_ok-undecoded-in-Err.field-0.line) c.in-Err.ensures c.in_ok-undecoded-in-Err.ensures.line
