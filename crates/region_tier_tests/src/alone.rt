@@ -1,0 +1,22 @@
+//! One maker by itself, call by call.
+use faaslet_meaning::{RegionOp, Reply};
+use region_tier::Tier;
+use shared_region::Region;
+use std::alloc::Global;
+use std::sync::Wait;
+
+/// A tier with one replica and one maker, which appends. `None` is for want of
+/// memory.
+pub fn append_alone<R: Wait>(rt: &R, alloc: Global, bytes: &[u8]) -> Option<(Reply, Region)> {
+    let Ok((tier, mut passes)) = Tier::local(alloc, &[4], 1) else {
+        return None;
+    };
+    let mut scratch = [0; 4];
+    let own = &mut passes[0];
+    let reply = tier.access(rt, own, 0, &RegionOp::Append { bytes }, &mut scratch);
+    let mut ends = tier.close(passes);
+    let Some((region, _list)) = ends.pop() else {
+        unreachable!()
+    };
+    Some((reply, region))
+}
