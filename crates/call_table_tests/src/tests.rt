@@ -29,6 +29,30 @@ fn request(table: &mut CallTable, input: &[u8]) -> Option<u32>
     table.submit_request(0, 0, input).ok()
 }
 
+/// The call of a request of function 0 that comes from a host, without an input.
+fn request_from(table: &mut CallTable, host: u32) -> Option<u32> {
+    if table.functions() == 0 || table.hosts() <= host {
+        return None;
+    }
+    table.submit_request(0, host, &[]).ok()
+}
+
+/// The host at which a call was placed.
+fn placed(table: &CallTable, call: u32) -> Option<u32> {
+    if call >= table.calls() {
+        return None;
+    }
+    Some(table.record_of(call).placed)
+}
+
+/// Whether host 1 takes this call next.
+fn takes(table: &mut CallTable, call: u32, buffer: &mut [u8]) -> bool {
+    match taken(table, buffer) {
+        Some(job) => job.call == call,
+        None => false,
+    }
+}
+
 /// What a submit of a child of function 0 answers.
 fn child(table: &mut CallTable, parent: u32, input: &[u8]) -> Option<Result<u32, SubmitFault>>
     requires { length input.now ≤ 65536 }
@@ -161,6 +185,27 @@ fn a_request_is_to_come(rt: HostRuntime) -> Result<(), Fail> {
     assert!(rt; table.unfinished() == 1);
     assert!(rt; request(&mut table, &[]) == Some(1));
     assert!(rt; table.unfinished() == 2);
+    Ok(())
+}
+
+#[test]
+fn a_host_takes_its_own_calls_first(rt: HostRuntime) -> Result<(), Fail> {
+    let mut buffer = vec![in rt.alloc(); 0; 65_536]?;
+    let mut table = table(rt.alloc(), 0)?;
+    for call in 0..1_000 {
+        assert!(rt; request_from(&mut table, call % 2) == Some(call));
+    }
+    for n in 0..500 {
+        assert!(rt; takes(&mut table, 2 * n + 1, &mut buffer));
+    }
+    for n in 0..500 {
+        assert!(rt; takes(&mut table, 2 * n, &mut buffer));
+    }
+    assert!(rt; is_idle(&mut table, 1_000, &mut buffer));
+    assert!(rt; request_from(&mut table, 0) == Some(1_000));
+    assert!(rt; placed(&table, 999) == Some(1) && placed(&table, 1_000) == Some(1));
+    assert!(rt; ended(&mut table, 7, &[]) && table.unfinished() == 1_000);
+    assert!(rt; takes(&mut table, 1_000, &mut buffer));
     Ok(())
 }
 
