@@ -15,4 +15,3 @@ pub mod Places
 pub mod Stable
 pub mod Submit
 pub mod Take
-pub mod Warm
