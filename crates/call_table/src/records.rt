@@ -29,12 +29,6 @@ pub(crate) fn is_on(state: &CallState, bench: u32) -> bool
     }
 }
 
-pub(crate) fn is_finished(state: &CallState) -> bool
-    ensures { result ≡ said.is_finished state.now }
-{
-    matches!(state, CallState::Finished { .. })
-}
-
 fn is_child(known: &CallRecord, parent: u32, child: u32) -> bool
     ensures { result ≡ said.is_child parent child known.now }
 {
@@ -53,13 +47,6 @@ pub(crate) fn child_of(records: &[CallRecord], parent: u32, child: u32) -> Optio
         }
     }
     None
-}
-
-pub(crate) fn requests(records: &[CallRecord]) -> usize
-    ensures count { result ≡ length (filter (λ r. r.depth == 1) records.now) }
-    ensures few { result ≤ length records.now }
-{
-    records.iter().filter(|r| r.depth == 1).count()
 }
 
 pub(crate) fn calls_of(records: &[CallRecord], request: u32) -> usize
