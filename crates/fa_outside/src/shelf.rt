@@ -28,6 +28,7 @@ pub trait Shelf {
         ensures closed { OnErr result (is_open self.new ≡ false) }
         ensures told { told self.new ≡ told self.old }
         ensures counted { faults self.old ≤ faults self.new }
+        ensures quiet { OnOk result (faults self.new ≡ faults self.old) }
         ensures cause { OnErr result (Rose (faults self.old) (faults self.new)) };
 
     /// Reads the next bytes of the open file into the front of `buf`, and answers how many.
@@ -42,6 +43,7 @@ pub trait Shelf {
         ensures kept { OnErr result (buf.new ≡ buf.old) }
         ensures told { told self.new ≡ told self.old }
         ensures counted { faults self.old ≤ faults self.new }
+        ensures quiet { OnOk result (faults self.new ≡ faults self.old) }
         ensures cause { OnErr result (Rose (faults self.old) (faults self.new)) };
 }
 
@@ -69,6 +71,7 @@ pub fn read_file<F: Shelf>(
     ensures failed { IsErrOf result ReadFault.Failed →
         Rose (F.faults shelf.old) (F.faults shelf.new) × (F.is_open shelf.new ≡ false) }
     ensures left_open { result ≢ Err ReadFault.Failed → IsTrue (F.is_open shelf.new) }
+    ensures quiet { result ≢ Err ReadFault.Failed → F.faults shelf.new ≡ F.faults shelf.old }
 
     ensures told { F.told shelf.new ≡ F.told shelf.old }
     ensures counted { F.faults shelf.old ≤ F.faults shelf.new }

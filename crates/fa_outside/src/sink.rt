@@ -23,6 +23,7 @@ pub trait Sink {
         ensures empty { bytes.now ≡ [] → result ≡ Ok 0 }
         ensures same { OnErr result (written self.new ≡ written self.old) }
         ensures counted { faults self.old ≤ faults self.new }
+        ensures quiet { OnOk result (faults self.new ≡ faults self.old) }
         ensures cause { OnErr result (Rose (faults self.old) (faults self.new)) };
 }
 
@@ -31,6 +32,7 @@ pub fn write_whole<O: Sink>(sink: &mut O, bytes: &[u8]) -> Result<(), Failed>
     ensures whole { OnOk result (Appends (O.written sink.old) (O.written sink.new) bytes.now) }
     ensures part { OnErr result (AppendsPart (O.written sink.old) (O.written sink.new) bytes.now) }
     ensures counted { O.faults sink.old ≤ O.faults sink.new }
+    ensures quiet { OnOk result (O.faults sink.new ≡ O.faults sink.old) }
     ensures cause { OnErr result (Rose (O.faults sink.old) (O.faults sink.new)) }
 {
     let mut done = 0;

@@ -7,7 +7,7 @@ invariant-pieces g l = record {
   open_file : IsTrue (g.F.Shelf.is_open l.shelf);
   content : IsFile (g.F.Shelf.told l.fn.shelf) l.fn.name (l.bytes.items ++ g.F.Shelf.rest l.shelf);
   told : g.F.Shelf.told l.shelf ≡ g.F.Shelf.told l.fn.shelf;
-  counted : g.F.Shelf.faults l.fn.shelf ≤ g.F.Shelf.faults l.shelf;
+  quiet : g.F.Shelf.faults l.shelf ≡ g.F.Shelf.faults l.fn.shelf;
   within : vec_len l.bytes ≤ l.limit + 1;
 }
 

@@ -9,5 +9,5 @@ pieces-preserved g c =
     record {
       within = omega (arith, front.within, length-drop {A = ℕ});
       written = appends_more _ _ _ _ _ _ c.pieces.invariant.written front.written;
-      counted = omega arith;
+      quiet = omega arith;
     }
