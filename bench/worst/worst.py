@@ -92,6 +92,21 @@ def set_zeros(stride):
     return make
 
 
+def teed_zeros(stride):
+    """A callee with 50,000 locals, of which it sets one in so many, one unit of fuel each."""
+
+    def make():
+        sets = b"".join(TEE + u(k) for k in range(0, 50_000, stride))
+        return module(often(call(1)), [(1, body(b"\x42\x01" + sets + DROP, [(50_000, I64)]))])
+
+    return make
+
+
+def zeros_and_value():
+    """A callee with 50,000 locals that answers a value: two units of fuel, and a value is pushed above the zeros."""
+    return module(often(call(1) + DROP), [(0, body(const(1), [(50_000, I64)]))])
+
+
 def last_zero():
     """A callee with 50,000 locals, of which it sets the last."""
     return module(often(call(1)), [(1, body(b"\x42\x01" + put(49_999), [(50_000, I64)]))])
@@ -241,6 +256,10 @@ CASES = [
     ("zeros, one in 256 set", set_zeros(256)),
     ("zeros, one in 64 set", set_zeros(64)),
     ("zeros, all set", set_zeros(1)),
+    ("zeros, one in 2,048 set by local.tee", teed_zeros(2_048)),
+    ("zeros, one in 512 set by local.tee", teed_zeros(512)),
+    ("zeros, one in 64 set by local.tee", teed_zeros(64)),
+    ("zeros and a value above them", zeros_and_value),
     ("calls of nothing", small_calls),
     ("calls, 1,024 parameters", wide_calls),
     ("calls, 1,000 frames", deep_calls),

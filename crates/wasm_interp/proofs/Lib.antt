@@ -1,3 +1,4 @@
+-- The lemmas by subject.
 pub mod Lists
 pub mod Values
 pub mod ValueCells

@@ -1,14 +1,13 @@
 -- The cells of the stack of values: one written, some made zero, and what of them is the stack.
-use Rattle.std.proofs.Common.{◌≡◌, ℕ, zero, suc, ◌+◌, ◌-◌, ◌*◌, ◌/◌, ◌<◌, ◌≤◌, List, [], ◌∷◌, ◌++◌, Bool, true, false, Some, length, take, drop, set, get_or, slice_get, replicate, reverse, refl, sym, ap, ◌∙◌, subst, arith, ⊎_elim, ◌⊎◌, inl, inr}
+use Rattle.std.proofs.Common.{◌≡◌, ℕ, zero, suc, ◌+◌, ◌-◌, ◌*◌, ◌/◌, ◌<◌, ◌≤◌, List, [], ◌∷◌, ◌++◌, Bool, true, false, length, take, drop, set, get_or, replicate, reverse, refl, sym, ap, ◌∙◌, subst, arith, ⊎_elim, ◌⊎◌, inl, inr}
 use Rattle.std.specs.Prelude.{◌≢◌}
 use Rattle.std.proofs.lemmas.Bool.{cases_lt}
-use Rattle.std.proofs.lemmas.Option.{slice_get_read}
 use Rattle.std.proofs.Math.Seq.{take-append_seam}
 use Rattle.std.specs.Int.{div_ceil}
-use Rattle.std.proofs.lemmas.List.{length-set, length-reverse, length-take-le, reverse-reverse, reverse-append, take-set-le, take_more, take_more_set, get_or-set_same, get_or-set_other, get_or-take, replicate-append-replicate, append_assoc, append-nil, length-append, length-replicate}
-use Rattle.wasm_validate.proofs.Piles.{pushed, reverse_set}
-use Rattle.wasm_interp.specs.ValueCells.{put_at, cleared, AreClean, AreValues, Cleaned}
-use Rattle.wasm_interp.proofs.Lists.{reverse_take, take_twice}
+use Rattle.std.proofs.lemmas.List.{length-set, length-reverse, length-take-le, reverse-append, take-set-le, take_more, get_or-take, replicate-append-replicate, append_assoc, append-nil, length-append, length-replicate}
+use Rattle.wasm_validate.proofs.Piles.{pushed}
+use Rattle.wasm_interp.specs.ValueCells.{put_at, cleared, AreClean, AreUnmarked, AreValues, Cleaned}
+use Rattle.wasm_interp.proofs.Lists.{take_twice}
 
 -- ---- one cell
 
@@ -64,20 +63,20 @@ read_mark [] i lt e = absurd (omega arith)
 read_mark (m ∷ ms) zero lt e = e
 read_mark (m ∷ ms) (suc i) lt e = read_mark ms i (omega arith) e
 
-clean_put : (cells : List ℕ) (marks : List Bool) (k x : ℕ) → AreClean cells marks → k ≤ length cells → AreClean (put_at cells k x) (set marks (k / 512) true)
+clean_put : (cells : List ℕ) (marks : List Bool) (k x : ℕ) → AreClean cells marks → k ≤ length cells → AreClean (put_at cells k x) (set marks (k / 64) true)
 clean_put cells marks k x clean le j e =
-    let h = marked marks (k / 512) (j / 512) e in
-    get_put cells k j x (λ same. h.0 (ap (λ n. n / 512) same)) le ∙ clean j h.1
+    let h = marked marks (k / 64) (j / 64) e in
+    get_put cells k j x (λ same. h.0 (ap (λ n. n / 64) same)) le ∙ clean j h.1
 
 -- ---- one value more
 
-pub push_keeps : (cells new : List ℕ) (top : ℕ) (marks : List Bool) (room space x : ℕ) → AreValues cells top marks room → top < 65536 → new ≡ put_at cells top x → room ≤ space → AreValues new (top + 1) (set marks (top / 512) true) space
+pub push_keeps : (cells new : List ℕ) (top : ℕ) (marks : List Bool) (room space x : ℕ) → AreValues cells top marks room → top < 65536 → new ≡ put_at cells top x → room ≤ space → AreValues new (top + 1) (set marks (top / 64) true) space
 push_keeps cells new top marks room space x v lt e same =
     record {
       top_in = subst (λ l. top + 1 ≤ length l) (sym e) (put_longer cells top x v.top_in);
       few = subst (λ l. length l ≤ 65536) (sym e) (put_within cells top x 65536 lt v.few);
       enough = omega (arith, v.enough, same);
-      clean = subst (λ l. AreClean l (set marks (top / 512) true)) (sym e) (clean_put cells marks top x v.clean v.top_in);
+      clean = subst (λ l. AreClean l (set marks (top / 64) true)) (sym e) (clean_put cells marks top x v.clean v.top_in);
     }
 
 pub push_is : (cells new : List ℕ) (top x : ℕ) → top ≤ length cells → new ≡ put_at cells top x → reverse (take (top + 1) new) ≡ x ∷ reverse (take top cells)
@@ -133,34 +132,81 @@ unmarked (m ∷ ms) zero (suc j) e = inr e
 unmarked (m ∷ ms) (suc i) zero e = inr e
 unmarked (m ∷ ms) (suc i) (suc j) e = ⊎_elim (λ f. inl (ap suc f)) (λ f. inr f) (unmarked ms i j e)
 
-pub run_cleaned : (old cells new : List ℕ) (marks ms : List Bool) (first run n : ℕ) → first ≤ run → n ≡ 512 → Cleaned old cells marks (first * 512) (run * 512) → new ≡ cleared cells (run * 512) n → ms ≡ set marks run false → Cleaned old new ms (first * 512) ((run + 1) * 512)
+pub run_cleaned : (old cells new : List ℕ) (marks ms : List Bool) (first run n : ℕ) → first ≤ run → n ≡ 64 → Cleaned old cells marks (first * 64) (run * 64) → new ≡ cleared cells (run * 64) n → ms ≡ set marks run false → Cleaned old new ms (first * 64) ((run + 1) * 64)
 run_cleaned old cells new marks ms first run n le many c e f =
-    subst (λ l. Cleaned old l ms (first * 512) ((run + 1) * 512)) (sym (e ∙ ap (cleared cells (run * 512)) many)) (subst (λ l. Cleaned old (cleared cells (run * 512) 512) l (first * 512) ((run + 1) * 512)) (sym f) (record {
-      long = cleared_long cells (run * 512) 512 ∙ c.long;
-      below = cleared_below cells (run * 512) 512 (first * 512) (omega arith) ∙ c.below;
+    subst (λ l. Cleaned old l ms (first * 64) ((run + 1) * 64)) (sym (e ∙ ap (cleared cells (run * 64)) many)) (subst (λ l. Cleaned old (cleared cells (run * 64) 64) l (first * 64) ((run + 1) * 64)) (sym f) (record {
+      long = cleared_long cells (run * 64) 64 ∙ c.long;
+      below = cleared_below cells (run * 64) 64 (first * 64) (omega arith) ∙ c.below;
       zeros = λ k low high. ⊎_elim
-          (λ before. stays_zero cells (run * 512) 512 k (c.zeros k low before))
-          (λ past. becomes_zero cells (run * 512) 512 k past (omega arith))
-          (cases_lt k (run * 512));
+          (λ before. stays_zero cells (run * 64) 64 k (c.zeros k low before))
+          (λ past. becomes_zero cells (run * 64) 64 k past (omega arith))
+          (cases_lt k (run * 64));
       clean = λ k f. ⊎_elim
-          (λ here. becomes_zero cells (run * 512) 512 k (omega (arith, here)) (omega (arith, here)))
-          (λ other. stays_zero cells (run * 512) 512 k (c.clean k other))
-          (unmarked marks run (k / 512) f);
+          (λ here. becomes_zero cells (run * 64) 64 k (omega (arith, here)) (omega (arith, here)))
+          (λ other. stays_zero cells (run * 64) 64 k (c.clean k other))
+          (unmarked marks run (k / 64) f);
     }))
 
-pub run_passed : (old cells new : List ℕ) (marks ms : List Bool) (first run : ℕ) → Cleaned old cells marks (first * 512) (run * 512) → get_or marks run true ≡ false → new ≡ cells → ms ≡ marks → Cleaned old new ms (first * 512) ((run + 1) * 512)
+pub run_passed : (old cells new : List ℕ) (marks ms : List Bool) (first run : ℕ) → Cleaned old cells marks (first * 64) (run * 64) → get_or marks run true ≡ false → new ≡ cells → ms ≡ marks → Cleaned old new ms (first * 64) ((run + 1) * 64)
 run_passed old cells new marks ms first run c e f g =
-    subst (λ l. Cleaned old l ms (first * 512) ((run + 1) * 512)) (sym f) (subst (λ l. Cleaned old cells l (first * 512) ((run + 1) * 512)) (sym g) (record {
+    subst (λ l. Cleaned old l ms (first * 64) ((run + 1) * 64)) (sym f) (subst (λ l. Cleaned old cells l (first * 64) ((run + 1) * 64)) (sym g) (record {
       long = c.long;
       below = c.below;
       zeros = λ k low high. ⊎_elim
           (λ before. c.zeros k low before)
           (λ past.
-          let here : run ≡ k / 512 = omega arith in
+          let here : run ≡ k / 64 = omega arith in
           c.clean k (subst (λ i. get_or marks i true ≡ false) here e))
-          (cases_lt k (run * 512));
+          (cases_lt k (run * 64));
       clean = c.clean;
     }))
+
+-- ---- groups of runs
+
+pub unmarked_more : (marks : List Bool) (from k : ℕ) → AreUnmarked marks from k → get_or marks k true ≡ false → AreUnmarked marks from (k + 1)
+unmarked_more marks from k none e j low high = ⊎_elim
+    (λ before. none j low before)
+    (λ past. let same : k ≡ j = omega arith in subst (λ i. get_or marks i true ≡ false) same e)
+    (cases_lt j k)
+
+-- The runs from one on up to another are cleaned as far as they lie in groups below this one.
+pub record GroupsCleaned (old new : List ℕ) (marks : List Bool) (first last group : ℕ) : Type 0 where
+  pub long : length new ≡ length old
+  pub below : take (first * 64) new ≡ take (first * 64) old
+  pub zeros : (k : ℕ) → first * 64 ≤ k → k < last * 64 → k < group * 2048 → get_or new k 0 ≡ 0
+  pub clean : AreClean new marks
+
+pub no_group_cleaned : (cells : List ℕ) (marks : List Bool) (first last group : ℕ) → group * 32 ≤ first → AreClean cells marks → GroupsCleaned cells cells marks first last group
+no_group_cleaned cells marks first last group le clean = record { long = refl; below = refl; zeros = λ k low high before. absurd (omega arith); clean = clean }
+
+pub group_cleaned : (old cells new : List ℕ) (marks ms : List Bool) (first last group from to : ℕ) → first ≤ from
+    → ((k : ℕ) → first * 64 ≤ k → k < from * 64 → k < group * 2048) → ((k : ℕ) → k < last * 64 → k < (group + 1) * 2048 → k < to * 64)
+    → GroupsCleaned old cells marks first last group → Cleaned cells new ms (from * 64) (to * 64) → GroupsCleaned old new ms first last (group + 1)
+group_cleaned old cells new marks ms first last group from to le low high c d =
+    record {
+      long = d.long ∙ c.long;
+      below = sym (take_twice (first * 64) (from * 64) new (omega arith)) ∙ ap (take (first * 64)) d.below ∙ take_twice (first * 64) (from * 64) cells (omega arith) ∙ c.below;
+      zeros = λ k a b e. ⊎_elim
+          (λ before. sym (get_or-take (from * 64) new k 0 before) ∙ ap (λ l. get_or l k 0) d.below ∙ get_or-take (from * 64) cells k 0 before ∙ c.zeros k a b (low k a before))
+          (λ past. d.zeros k past (high k b e))
+          (cases_lt k (from * 64));
+      clean = d.clean;
+    }
+
+pub group_passed : (old cells : List ℕ) (marks : List Bool) (first last group : ℕ) → GroupsCleaned old cells marks first last group → AreUnmarked marks (group * 32) (group * 32 + 32) → GroupsCleaned old cells marks first last (group + 1)
+group_passed old cells marks first last group c none =
+    record {
+      long = c.long;
+      below = c.below;
+      zeros = λ k a b e. ⊎_elim
+          (λ before. c.zeros k a b before)
+          (λ past. c.clean k (none (k / 64) (omega arith) (omega arith)))
+          (cases_lt k (group * 2048));
+      clean = c.clean;
+    }
+
+pub groups_cleaned : (old new : List ℕ) (marks : List Bool) (first last group : ℕ) → last ≤ group * 32 → GroupsCleaned old new marks first last group → Cleaned old new marks (first * 64) (last * 64)
+groups_cleaned old new marks first last group le c = record { long = c.long; below = c.below; zeros = λ k low high. c.zeros k low high (omega arith); clean = c.clean }
 
 -- ---- zeros on top
 
@@ -209,21 +255,21 @@ pub record ZerosPut (cells made : List ℕ) (top count : ℕ) (marks : List Bool
   pub is : reverse (take (top + count) made) ≡ replicate count 0 ++ reverse (take top cells)
 
 pub zeros_put : (cells grown part made : List ℕ) (top count first last z n : ℕ) (marks after : List Bool) (room space : ℕ)
-    → AreValues cells top marks room → top + count ≤ 65536 → room ≤ space → top ≤ first * 512 → first ≤ last → top + count ≤ last * 512 → last * 512 < top + count + 512
-    → grown ≡ cells ++ replicate z 0 → last * 512 ≤ length grown → length grown ≤ 65536
-    → part ≡ cleared grown top n → ((k : ℕ) → top ≤ k → k < top + count → k < first * 512 → k < top + n)
-    → (AreClean part marks → Cleaned part made after (first * 512) (last * 512)) → ZerosPut cells made top count after space
+    → AreValues cells top marks room → top + count ≤ 65536 → room ≤ space → top ≤ first * 64 → first ≤ last → top + count ≤ last * 64 → last * 64 < top + count + 64
+    → grown ≡ cells ++ replicate z 0 → last * 64 ≤ length grown → length grown ≤ 65536
+    → part ≡ cleared grown top n → ((k : ℕ) → top ≤ k → k < top + count → k < first * 64 → k < top + n)
+    → (AreClean part marks → Cleaned part made after (first * 64) (last * 64)) → ZerosPut cells made top count after space
 zeros_put cells grown part made top count first last z n marks after room space v few same low order high near e enough within f covers cleaned =
     let c = cleaned (part_clean cells grown part top z n marks v.clean e f) in
     let long : length made ≡ length grown = c.long ∙ ap length f ∙ cleared_long grown top n in
     let front : take top made ≡ take top cells =
-    sym (take_twice top (first * 512) made low) ∙ ap (take top) c.below ∙ take_twice top (first * 512) part low ∙ ap (take top) f ∙ cleared_below grown top n top (omega arith) ∙ ap (take top) e ∙ take_grown cells (replicate z 0) top v.top_in in
+    sym (take_twice top (first * 64) made low) ∙ ap (take top) c.below ∙ take_twice top (first * 64) part low ∙ ap (take top) f ∙ cleared_below grown top n top (omega arith) ∙ ap (take top) e ∙ take_grown cells (replicate z 0) top v.top_in in
     let zeros : (k : ℕ) → top ≤ k → k < top + count → get_or made k 0 ≡ 0 = λ k from to. ⊎_elim
     (λ before.
-    sym (get_or-take (first * 512) made k 0 before) ∙ ap (λ l. get_or l k 0) c.below ∙ get_or-take (first * 512) part k 0 before
+    sym (get_or-take (first * 64) made k 0 before) ∙ ap (λ l. get_or l k 0) c.below ∙ get_or-take (first * 64) part k 0 before
     ∙ ap (λ l. get_or l k 0) f ∙ becomes_zero grown top n k from (covers k from to before))
     (λ past. c.zeros k past (omega arith))
-    (cases_lt k (first * 512)) in
+    (cases_lt k (first * 64)) in
     record {
       keeps = record { top_in = omega (arith, long); few = omega (arith, long); enough = omega (arith, v.enough, same); clean = c.clean };
       is =
@@ -239,7 +285,7 @@ grown_within cells grown n most e few le =
     (omega (arith, long), omega (arith, long))
 
 -- the end of the run that holds a place
-pub run_end : (x : ℕ) → (x ≤ div_ceil x 512 * 512) × (div_ceil x 512 * 512 < x + 512)
+pub run_end : (x : ℕ) → (x ≤ div_ceil x 64 * 64) × (div_ceil x 64 * 64 < x + 64)
 run_end x = (omega arith, omega arith)
 
 -- a slice of all cells, written back

@@ -14,7 +14,11 @@ cleared xs from (suc n) = slice_set (cleared xs from n) (from + n) 0
 
 -- each cell whose run isn't marked is zero; one that isn't there yet counts as zero
 abbrev pub AreClean : List ℕ → List Bool → Type 0
-AreClean cells marks = (k : ℕ) → slice_index_or marks (k / 512) true ≡ false → slice_index_or cells k 0 ≡ 0
+AreClean cells marks = (k : ℕ) → slice_index_or marks (k / 64) true ≡ false → slice_index_or cells k 0 ≡ 0
+
+-- none of the marks from one on up to another is set
+abbrev pub AreUnmarked : List Bool → ℕ → ℕ → Type 0
+AreUnmarked marks from to = (j : ℕ) → from ≤ j → j < to → slice_index_or marks j true ≡ false
 
 -- what holds of the stack between its calls
 pub record AreValues (cells : List ℕ) (top : ℕ) (marks : List Bool) (room : ℕ) : Type 0 where

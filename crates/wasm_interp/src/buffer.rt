@@ -48,6 +48,7 @@ fn lay(bytes: &mut [u8], at: usize, new: &[u8])
 }
 
 impl Buffer {
+    /// An empty buffer, with all the memory that it ever takes.
     pub fn new(alloc: Global) -> Result<Buffer, AllocError>
         ensures { IfOk result (λ b. length b ≡ 65536) }
     {
@@ -55,6 +56,7 @@ impl Buffer {
         Ok(Buffer { bytes })
     }
 
+    /// Its bytes.
     pub fn as_slice(&self) -> &[u8]
         ensures bytes { result.now ≡ self.now }
         ensures long { length self.now ≡ 65536 }

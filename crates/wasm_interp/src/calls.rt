@@ -21,7 +21,7 @@ use faaslet_meaning::{Instr, Linear, Outcome, Trap};
 use wasm_validate::ValidModule;
 
 impl<'m> Thread<'m> {
-    // Calls a function of the module.
+    /// Calls a function of the module.
     pub fn invoke(&mut self, code: &'m ValidModule, f: u32) -> Stage
         requires imports { HostImports code.now }
         requires ready { (grants : List Grant) × Ready self.old (λ d. call_at (program_of code.now grants) d f) }
@@ -62,7 +62,7 @@ impl<'m> Thread<'m> {
         }
     }
 
-    // Calls the function at the index on top of the values in the table.
+    /// Calls the function at the index on top of the values in the table.
     pub fn invoke_indirect(&mut self, code: &'m ValidModule, t: u32) -> Stage
         requires imports { HostImports code.now }
         requires ready { (grants : List Grant) × Ready self.old (λ d. instruction (Instr.CallIndirect t) (program_of code.now grants) d) }

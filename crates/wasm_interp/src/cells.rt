@@ -25,6 +25,7 @@ impl<T> Model for Cells<T> {
 }
 
 impl<T: Copy> Cells<T> {
+    /// No cells, with room for so many.
     pub fn new(alloc: Global, room: u32) -> Result<Self, AllocError>
         ensures { IfOk result (λ s. s ≡ record { room = room; items = [] }) }
     {
@@ -32,6 +33,7 @@ impl<T: Copy> Cells<T> {
         Ok(Cells { room, items })
     }
 
+    /// How many cells there are.
     #[inline(always)]
     pub fn len(&self) -> usize
         ensures { result ≡ length self.now.items }
@@ -39,12 +41,14 @@ impl<T: Copy> Cells<T> {
         self.items.len()
     }
 
+    /// All cells, in order.
     pub fn as_slice(&self) -> &[T]
         ensures { result.now ≡ self.now.items }
     {
         self.items.as_slice()
     }
 
+    /// The cell of this number.
     #[inline(always)]
     pub fn get(&self, k: usize) -> T
         requires { k < length self.now.items }
@@ -53,6 +57,7 @@ impl<T: Copy> Cells<T> {
         self.items[k]
     }
 
+    /// Another item in the cell of this number.
     #[inline(always)]
     pub fn set(&mut self, k: usize, x: T)
         requires { k < length self.old.items }

@@ -106,7 +106,7 @@ impl<'m> Thread<'m> {
         }
     }
 
-    // A branch over the n innermost labels, or out of the frame.
+    /// A branch over the n innermost labels, or out of the frame.
     #[inline(always)]
     pub fn br(&mut self, n: u32) -> Option<Outcome>
         requires { Ready self.old (λ d. br d n) }
@@ -121,6 +121,7 @@ impl<'m> Thread<'m> {
         }
     }
 
+    /// Branches where the value on top is not zero.
     #[inline(always)]
     pub fn br_if(&mut self, n: u32) -> Option<Outcome>
         requires { Can self.old (Instr.BrIf n) }
@@ -134,6 +135,7 @@ impl<'m> Thread<'m> {
         }
     }
 
+    /// Branches to the label that the value on top picks, or to the last.
     pub fn br_table(&mut self, targets: &Labels, last: u32) -> Option<Outcome>
         requires { Can self.old (Instr.BrTable targets.now last) }
         ensures done { Does self.old (Instr.BrTable targets.now last) self.new result }
@@ -143,7 +145,7 @@ impl<'m> Thread<'m> {
         self.br(target(targets.as_slice(), last, x))
     }
 
-    // An instruction that opens a block, once it is paid for; the thread stands at it.
+    /// An instruction that opens a block, once it is paid for; the thread stands at it.
     #[inline(always)]
     pub fn open(&mut self, instr: &Instr, jump: Jump) -> Option<Outcome>
         requires ready { (p : Program) × Ready self.old (λ c. begin p c c.frame.rest) }
@@ -171,7 +173,7 @@ impl<'m> Thread<'m> {
         }
     }
 
-    // The end of a sequence.
+    /// The end of a sequence.
     #[inline(always)]
     pub fn end(&mut self) -> Option<Outcome>
         requires ready { Ready self.old (λ c. leave c c.frame.labels) }
@@ -190,7 +192,7 @@ impl<'m> Thread<'m> {
         }
     }
 
-    // The end of an `if`'s first side.
+    /// The end of an `if`'s first side.
     #[inline(always)]
     pub fn other_end(&mut self) -> Option<Outcome>
         requires ready { Ready self.old (λ c. leave c c.frame.labels) }

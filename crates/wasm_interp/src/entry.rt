@@ -45,7 +45,7 @@ impl<'m> Thread<'m> {
         })
     }
 
-    // Begins a body without parameters.
+    /// Begins a body without parameters.
     pub fn begin(&mut self, own: Own<'m>, globals: &[u64], table: &[Option<u32>], fuel: u64)
         requires few { own.locals ≤ 65536 }
         requires globals { length globals.now ≤ self.old.globals.room }
@@ -86,7 +86,7 @@ impl<'m> Thread<'m> {
         }
     }
 
-    // Goes on after a host call.
+    /// Goes on after a host call.
     pub fn finish(&mut self, answer: Result<Option<u64>, Trap>) -> Stage
         ensures done { (memory : Memory) (c : Configuration) → Stands memory self.old c → StageStands memory self.new result (finished c answer) }
         ensures rooms { SameRooms self.old self.new }

@@ -23,7 +23,7 @@ use faaslet_meaning::{Instr, Outcome, Trap};
 use wasm_validate::Jump;
 
 impl<'m> Thread<'m> {
-    // Leaves the frame with its results; that of the entry ends the run.
+    /// Leaves the frame with its results; that of the entry ends the run.
     pub fn leave_frame(&mut self) -> Option<Outcome>
         requires { Ready self.old (λ d. leave_frame d) }
         ensures done { (memory : Memory) (d : Configuration) → Stands memory self.old d → leave_frame d ≢ stuck → Follows memory self.new (leave_frame d) result }
@@ -64,7 +64,7 @@ impl<'m> Thread<'m> {
             && extra <= (VALUES - values) as u64
     }
 
-    // Enters a body, whose arguments are the topmost values and become its first locals.
+    /// Enters a body, whose arguments are the topmost values and become its first locals.
     pub fn enter_body(
         &mut self,
         code: &'m [Instr],
@@ -120,7 +120,7 @@ impl<'m> Thread<'m> {
         None
     }
 
-    // A host call, before it is told: its arguments are taken, and its buffer is paid for.
+    /// A host call, before it is told: its arguments are taken, and its buffer is paid for.
     pub fn host_call(&mut self, number: usize, params: usize) -> Result<HostAsk, Outcome>
         requires { (t : FuncType) × (length t.params ≡ params) × Ready self.old (λ d. call d (hosted number t)) }
         ensures done { (memory : Memory) (d : Configuration) (t : FuncType) → Stands memory self.old d → length t.params ≡ params

@@ -80,7 +80,7 @@ impl<'m> Thread<'m> {
         None
     }
 
-    // In the order of the opcodes.
+    /// In the order of the opcodes.
     #[inline(always)]
     pub fn numeric(&mut self, op: u8) -> Option<Outcome>
         requires { Can self.old (Instr.Num op) }

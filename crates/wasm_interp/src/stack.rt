@@ -22,6 +22,7 @@ impl<T, const ROOM: usize> Model for Stack<T, ROOM> {
 }
 
 impl<T: Copy, const ROOM: usize> Stack<T, ROOM> {
+    /// An empty stack, with all the memory that it ever takes.
     pub fn new(alloc: Global) -> Result<Self, AllocError>
         ensures { IfOk result (λ s. s ≡ []) }
     {
@@ -29,6 +30,7 @@ impl<T: Copy, const ROOM: usize> Stack<T, ROOM> {
         Ok(Stack { items })
     }
 
+    /// How many items there are.
     #[inline(always)]
     pub fn len(&self) -> usize
         ensures { result ≡ length self.now }
@@ -36,6 +38,7 @@ impl<T: Copy, const ROOM: usize> Stack<T, ROOM> {
         self.items.len()
     }
 
+    /// One more item, on top.
     #[inline(always)]
     pub fn push(&mut self, x: T)
         requires { length self.old < ROOM }
@@ -47,6 +50,7 @@ impl<T: Copy, const ROOM: usize> Stack<T, ROOM> {
         }
     }
 
+    /// Takes the topmost item off.
     #[inline(always)]
     pub fn pop(&mut self) -> T
         requires { 0 < length self.old }

@@ -122,6 +122,7 @@ impl<'m, M: Linear> Machine<'m, M> {
         self.writable = writable;
     }
 
+    /// The globals, in the order of their numbers.
     pub fn globals(&self) -> &[u64]
         ensures { (code : Module) (grants : List Grant) (given : ℕ) (n : Next) (c : Configuration)
             → StandsFor M.memory self.now code grants given n → config_of n ≡ Some c → result.now ≡ c.globals }
@@ -129,6 +130,7 @@ impl<'m, M: Linear> Machine<'m, M> {
         self.thread.globals.as_slice()
     }
 
+    /// The elements of the table: the number of a function, or none.
     pub fn table(&self) -> &[Option<u32>]
         ensures { (code : Module) (grants : List Grant) (given : ℕ) (n : Next) (c : Configuration)
             → StandsFor M.memory self.now code grants given n → config_of n ≡ Some c → result.now ≡ c.table }

@@ -13,11 +13,13 @@ use crate::value_stack::Values;
 use faaslet_meaning::{Instr, Outcome, Trap};
 use wasm_validate::Jump;
 
-/// How many values, labels and frames are held at most.
+/// How many values the frames of a call may hold together, their locals among them.
 pub const VALUES: usize = 65_536;
 
+/// How many labels the frames of a call may hold together.
 pub const LABELS: usize = 65_536;
 
+/// How many frames a call may have.
 pub const FRAMES: usize = 1_024;
 
 /// A label that was entered: where a branch to it goes on, how many values lie below it, and how many

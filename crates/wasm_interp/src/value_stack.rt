@@ -1,14 +1,17 @@
 //! The stack of values. A frame's locals come onto it as zeros. So that a call costs little, however many they are,
 //! cells that are zero already aren't written again.
 
-ghost use Rattle.std.specs.Prelude.{◌≡◌, ◌+◌, ◌-◌, ◌*◌, ◌<◌, ◌≤◌, [], ◌∷◌, ◌++◌, length, take, drop, replicate, reverse, Some, slice_get, slice_set, vec_capacity, IfOk};
-ghost use Rattle.wasm_interp.specs.ValueCells.{AreClean, Cleaned, cleared, put_at};
+ghost use Rattle.std.specs.Prelude.{◌≡◌, ◌+◌, ◌-◌, ◌*◌, ◌<◌, ◌≤◌, [], ◌∷◌, ◌++◌, length, take, drop, replicate, reverse, false, Some, slice_get, slice_set, vec_capacity, IfOk};
+ghost use Rattle.wasm_interp.specs.ValueCells.{AreClean, AreUnmarked, Cleaned, cleared, put_at};
 
 use std::alloc::{AllocError, Global};
 use std::marker::Model;
 
 /// How many cells have one mark. With fewer a call looks at more marks, with more it writes more cells.
-const RUN: usize = 512;
+const RUN: usize = 64;
+
+/// How many marks are looked at as one.
+const GROUP: usize = 32;
 
 /// A stack with room for 65,536 values, which takes no memory once it is made. The values are the first `top` cells;
 /// those above hold what was left there. The mark of a run of cells says whether one of them may be other than zero.
@@ -16,7 +19,7 @@ const RUN: usize = 512;
 pub struct Values {
     cells: Vec<u64>,
     top: usize,
-    marks: [bool; 128],
+    marks: [bool; 1024],
 }
 
 impl Model for Values {
@@ -74,11 +77,12 @@ fn clear(cells: &mut [u64], from: usize, to: usize)
 }
 
 /// Zeros in place of these runs.
+#[inline(never)]
 fn clean(cells: &mut [u64], marks: &mut [bool], first: usize, last: usize)
     requires marks { last ≤ length marks.old }
-    requires cells { last * 512 ≤ length cells.old }
+    requires cells { last * 64 ≤ length cells.old }
     requires clean { AreClean cells.old marks.old }
-    ensures cleaned { Cleaned cells.old cells.new marks.new (first * 512) (last * 512) }
+    ensures cleaned { Cleaned cells.old cells.new marks.new (first * 64) (last * 64) }
     ensures marks { length marks.new ≡ length marks.old }
 {
     for run in first..last {
@@ -89,7 +93,57 @@ fn clean(cells: &mut [u64], marks: &mut [bool], first: usize, last: usize)
     }
 }
 
+/// Whether a mark of this group is set. The loop has no exit, so many are looked at by one instruction.
+#[inline(always)]
+fn is_marked(marks: &[bool], group: usize) -> bool
+    requires { group * 32 + 32 ≤ length marks.now }
+    ensures { result ≡ false → AreUnmarked marks.now (group * 32) (group * 32 + 32) }
+{
+    let mut any = false;
+    for k in group * GROUP..group * GROUP + GROUP {
+        if marks[k] {
+            any = true;
+        }
+    }
+    any
+}
+
+/// Zeros in place of these runs, of which those of a group without a mark are passed over together.
+#[inline(never)]
+fn clean_groups(cells: &mut [u64], marks: &mut [bool], first: usize, last: usize)
+    requires marks { length marks.old ≡ 1024 }
+    requires within { last ≤ 1024 }
+    requires cells { last * 64 ≤ length cells.old }
+    requires clean { AreClean cells.old marks.old }
+    ensures cleaned { Cleaned cells.old cells.new marks.new (first * 64) (last * 64) }
+    ensures marks { length marks.new ≡ length marks.old }
+{
+    for group in first / GROUP..last.div_ceil(GROUP) {
+        if is_marked(marks, group) {
+            let from = first.max(group * GROUP);
+            let to = last.min(group * GROUP + GROUP);
+            clean(cells, marks, from, to);
+        }
+    }
+}
+
+/// Zeros in place of these runs, which mostly are none.
+#[inline(always)]
+fn clean_runs(cells: &mut [u64], marks: &mut [bool], first: usize, last: usize)
+    requires marks { length marks.old ≡ 1024 }
+    requires within { last ≤ 1024 }
+    requires cells { last * 64 ≤ length cells.old }
+    requires clean { AreClean cells.old marks.old }
+    ensures cleaned { Cleaned cells.old cells.new marks.new (first * 64) (last * 64) }
+    ensures marks { length marks.new ≡ length marks.old }
+{
+    if first < last {
+        clean_groups(cells, marks, first, last);
+    }
+}
+
 impl Values {
+    /// An empty stack, with all the memory that it ever takes, 512 KiB and its marks.
     pub fn new(alloc: Global) -> Result<Self, AllocError>
         ensures { IfOk result (λ s. s ≡ []) }
     {
@@ -97,10 +151,11 @@ impl Values {
         Ok(Values {
             cells,
             top: 0,
-            marks: [false; 128],
+            marks: [false; 1024],
         })
     }
 
+    /// How many values there are.
     #[inline(always)]
     pub fn len(&self) -> usize
         ensures { result ≡ length self.now }
@@ -108,6 +163,7 @@ impl Values {
         self.top
     }
 
+    /// One more value, on top.
     #[inline(always)]
     pub fn push(&mut self, x: u64)
         requires { length self.old < 65536 }
@@ -118,6 +174,7 @@ impl Values {
         self.top += 1;
     }
 
+    /// Takes the topmost value off.
     #[inline(always)]
     pub fn pop(&mut self) -> u64
         requires { 0 < length self.old }
@@ -204,7 +261,7 @@ impl Values {
         grow(&mut self.cells, last * RUN);
         let cells = self.cells.as_mut_slice();
         clear(cells, self.top, end.min(first * RUN));
-        clean(cells, &mut self.marks, first, last);
+        clean_runs(cells, &mut self.marks, first, last);
         self.top = end;
     }
 }

@@ -11,6 +11,7 @@ use crate::thread::Thread;
 use faaslet_meaning::{Instr, Outcome};
 
 impl<'m> Thread<'m> {
+    /// One more value, an i32.
     #[inline(always)]
     pub fn i32_const(&mut self, n: &i32) -> Option<Outcome>
         ensures done { Does self.old (Instr.I32Const n.now) self.new result }
@@ -20,6 +21,7 @@ impl<'m> Thread<'m> {
         self.put(u64::from(value.cast_unsigned()))
     }
 
+    /// One more value, an i64.
     #[inline(always)]
     pub fn i64_const(&mut self, n: &i64) -> Option<Outcome>
         ensures done { Does self.old (Instr.I64Const n.now) self.new result }
@@ -29,6 +31,7 @@ impl<'m> Thread<'m> {
         self.put(value.cast_unsigned())
     }
 
+    /// Takes the topmost value off.
     #[inline(always)]
     pub fn drop_top(&mut self) -> Option<Outcome>
         requires { 0 < length self.old.values }
@@ -39,6 +42,7 @@ impl<'m> Thread<'m> {
         None
     }
 
+    /// Keeps the first of two values where the one on top is not zero, and else the second.
     #[inline(always)]
     pub fn select(&mut self) -> Option<Outcome>
         requires { 3 ≤ length self.old.values }
@@ -53,6 +57,7 @@ impl<'m> Thread<'m> {
         None
     }
 
+    /// One more value, that of a local.
     #[inline(always)]
     pub fn local_get(&mut self, k: u32) -> Option<Outcome>
         requires { Can self.old (Instr.LocalGet k) }
@@ -75,6 +80,7 @@ impl<'m> Thread<'m> {
         self.values.set_at(self.here.base + k as usize, v);
     }
 
+    /// Takes the topmost value off, into a local.
     #[inline(always)]
     pub fn local_set(&mut self, k: u32) -> Option<Outcome>
         requires { Can self.old (Instr.LocalSet k) }
@@ -86,6 +92,7 @@ impl<'m> Thread<'m> {
         None
     }
 
+    /// The topmost value into a local as well.
     #[inline(always)]
     pub fn local_tee(&mut self, k: u32) -> Option<Outcome>
         requires { Can self.old (Instr.LocalTee k) }
@@ -97,6 +104,7 @@ impl<'m> Thread<'m> {
         None
     }
 
+    /// One more value, that of a global.
     #[inline(always)]
     pub fn global_get(&mut self, k: u32) -> Option<Outcome>
         requires { k < length self.old.globals.items }
@@ -107,6 +115,7 @@ impl<'m> Thread<'m> {
         self.put(v)
     }
 
+    /// Takes the topmost value off, into a global.
     #[inline(always)]
     pub fn global_set(&mut self, k: u32) -> Option<Outcome>
         requires room { k < length self.old.globals.items }

@@ -1,3 +1,4 @@
+-- Lists of types are the same where their codes are.
 use Rattle.std.proofs.Common.{refl}
 use Rattle.wasm_interp.proofs.TypeCodes.{same_by}
 use Rattle.wasm_interp.proofs.functions.are_same.Goals as goal

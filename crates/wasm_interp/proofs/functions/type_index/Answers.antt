@@ -1,3 +1,4 @@
+-- A function's type is that of its import, or of its own entry.
 use Rattle.std.proofs.Common.{rules, ◌≡◌, ◌∙◌, ◌+◌, ◌-◌, ◌<◌, length, sym, ap, arith, Some, refl}
 use Rattle.std.specs.Prelude.{slice_get, slice_index_or}
 use Rattle.std.proofs.lemmas.Option.{slice_get_read, slice_get-get_or}

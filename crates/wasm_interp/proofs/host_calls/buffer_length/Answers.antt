@@ -1,3 +1,4 @@
+-- The table of lengths names the argument that a host call's own row names.
 use Rattle.std.proofs.Common.{◌∙◌, ap, sym}
 use Rattle.std.specs.Prelude.{slice_get, option_and_then}
 use Rattle.wasm_interp.proofs.BufferLengths.{length_told}

@@ -1,3 +1,4 @@
+-- The arguments stand in order, and the values below them are left.
 use Rattle.std.proofs.Common.{◌∙◌, ◌-◌, ap, sym, arith, length}
 use Rattle.std.proofs.lemmas.List.{length-set}
 use Rattle.wasm_interp.proofs.Arguments.{taken_more, dropped_more}

@@ -1,3 +1,4 @@
+-- So far the arguments from the last on are taken off.
 use Rattle.std.proofs.Common.{◌≡◌, ◌-◌, ◌≤◌, ◌++◌, drop, length, map, take}
 use Rattle.std.specs.Prelude.{reverse}
 use Rattle.std.specs.Int.{w32}

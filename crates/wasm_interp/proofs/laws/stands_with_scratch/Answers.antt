@@ -1,3 +1,4 @@
+-- What a machine stands for does not speak of its scratch.
 use Rattle.wasm_interp.proofs.Replaced.{scratch_replaced}
 use Rattle.wasm_interp.proofs.laws.stands_with_scratch.Goals as goal
 

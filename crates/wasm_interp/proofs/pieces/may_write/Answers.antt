@@ -1,3 +1,4 @@
+-- A store goes on where each of its shared pieces may be written, by the grants that agree.
 use Rattle.std.proofs.Common.{◌≡◌, ◌+◌, ◌-◌, List, ap, ◌∙◌, sym, arith}
 use Rattle.faaslet_meaning.specs.declared.grant.Grant.{Grant}
 use Rattle.faaslet_meaning.specs.declared.grant.Mode.TheVariants.{Write as write_mode}

@@ -1,3 +1,4 @@
+-- So far each shared piece may be written.
 use Rattle.std.proofs.Common.{◌-◌, ◌≡◌, ◌+◌, ◌≤◌, List}
 use Rattle.faaslet_meaning.specs.declared.grant.Grant.{Grant}
 use Rattle.faaslet_meaning.specs.declared.grant.Mode.TheVariants.{Write as write_mode}

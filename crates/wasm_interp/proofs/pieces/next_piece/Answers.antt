@@ -1,3 +1,4 @@
+-- The next piece is the first of those that the definition lists.
 use Rattle.std.proofs.Common.{◌+◌, ◌-◌}
 use Rattle.wasm_interp.proofs.PieceLists.{piece_some, piece_few}
 use Rattle.wasm_interp.proofs.pieces.next_piece.Goals as goal

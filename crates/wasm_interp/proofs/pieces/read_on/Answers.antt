@@ -1,3 +1,4 @@
+-- A private piece is read, and a shared one is asked for.
 use Rattle.std.proofs.Common.{◌+◌, ◌-◌}
 use Rattle.wasm_interp.proofs.PieceSteps.{private_first, read_step}
 use Rattle.wasm_interp.proofs.pieces.read_on.Goals as goal

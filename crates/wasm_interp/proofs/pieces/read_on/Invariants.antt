@@ -1,3 +1,4 @@
+-- So far the bytes of the private pieces passed are read.
 use Rattle.std.proofs.Common.{◌-◌}
 use Rattle.wasm_interp.specs.Parts.{ReadOn}
 use Rattle.wasm_interp.proofs.pieces.read_on.Given as goal

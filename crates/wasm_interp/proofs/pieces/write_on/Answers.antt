@@ -1,3 +1,4 @@
+-- A private piece is written, and a shared one is asked for.
 use Rattle.std.proofs.Common.{◌≡◌, ◌+◌, ◌-◌, ◌*◌, ◌^◌, ◌/◌, ap, ◌∙◌, arith}
 use Rattle.faaslet_meaning.specs.LoadStore.{bytes_of}
 use Rattle.faaslet_meaning.specs.Memory.{put, Memory}

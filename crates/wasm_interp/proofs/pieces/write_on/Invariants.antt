@@ -1,3 +1,4 @@
+-- So far the bytes of the private pieces passed are written.
 use Rattle.std.proofs.Common.{◌-◌, ◌≤◌, ◌≡◌, ◌+◌}
 use Rattle.faaslet_meaning.specs.Memory.{pieces, write_on}
 use Rattle.wasm_interp.specs.Parts.{left_to_write}

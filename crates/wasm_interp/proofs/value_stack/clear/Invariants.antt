@@ -1,3 +1,4 @@
+-- So far the cells below this one are zero.
 use Rattle.std.proofs.Common.{◌≡◌, ◌-◌, ◌≤◌}
 use Rattle.wasm_interp.specs.ValueCells.{cleared}
 use Rattle.wasm_interp.proofs.value_stack.clear.Given as goal

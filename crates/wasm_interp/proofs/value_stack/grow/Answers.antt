@@ -1,4 +1,5 @@
-use Rattle.std.proofs.Common.{◌≡◌, ◌∙◌, ◌+◌, ◌-◌, ◌++◌, [], ◌∷◌, suc, ap, arith, length, replicate}
+-- One zero more is one more of those that were promised.
+use Rattle.std.proofs.Common.{◌≡◌, ◌∙◌, ◌+◌, ◌-◌, ◌++◌, [], ◌∷◌, suc, ap, arith, replicate}
 use Rattle.wasm_interp.proofs.ValueCells.{zeros_more}
 use Rattle.wasm_interp.proofs.value_stack.grow.Goals as goal
 

@@ -1,4 +1,5 @@
-use Rattle.std.proofs.Common.{◌≡◌, ◌-◌, ◌≤◌, ◌++◌, length}
+-- So far so many zeros stand behind the cells.
+use Rattle.std.proofs.Common.{◌≡◌, ◌-◌, ◌≤◌, ◌++◌}
 use Rattle.std.specs.Prelude.{replicate, vec_capacity}
 use Rattle.wasm_interp.proofs.value_stack.grow.Given as goal
 

@@ -1,3 +1,4 @@
+-- A cell that is there is set, and the next is pushed.
 use Rattle.std.proofs.Common.{◌≡◌, ◌∙◌, ◌<◌, length, arith}
 use Rattle.wasm_interp.proofs.ValueCells.{put_is_set, put_is_push}
 use Rattle.wasm_interp.proofs.value_stack.put.Goals as goal

@@ -1,3 +1,4 @@
+-- So many bytes, from the lowest on, are a number.
 use Rattle.std.proofs.Common.{◌<◌, ◌^◌, ◌*◌, ◌+◌, ap, arith, subst, sym}
 use Rattle.faaslet_meaning.proofs.WordBytes.{shifted, joined_small, within_word}
 use Rattle.wasm_interp.proofs.words.joined.Goals as goal

@@ -1,3 +1,4 @@
+-- The number that eight bytes spell.
 use Rattle.std.proofs.Common.{◌≡◌, ◌<◌, ◌^◌, ◌*◌, length, ◌++◌, ◌∙◌, drop, replicate, subst, sym, ℕ, arith, get_or}
 use Rattle.std.specs.Int.{w64, from_le_bytes}
 use Rattle.faaslet_meaning.specs.LoadStore.{number}

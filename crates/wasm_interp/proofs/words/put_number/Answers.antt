@@ -1,3 +1,4 @@
+-- The bytes of a number are written from the lowest on.
 use Rattle.std.proofs.Common.{length, take, ap, ◌∙◌}
 use Rattle.faaslet_meaning.proofs.WordBytes.{front, eight_of}
 use Rattle.wasm_interp.proofs.words.put_number.Goals as goal

@@ -1,3 +1,4 @@
+-- What is written to a lent buffer is its content.
 use Rattle.std.proofs.Common.{◌≡◌, ◌∙◌, ◌++◌, length, take, drop, ap, refl, arith}
 use Rattle.wasm_interp.specs.Lending.{laid}
 use Rattle.wasm_interp.proofs.buffer.Buffer.as_mut_slice.Goals as goal

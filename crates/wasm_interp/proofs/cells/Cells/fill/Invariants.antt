@@ -1,3 +1,4 @@
+-- So far the items below this one are copied.
 use Rattle.std.proofs.Common.{◌≡◌, ◌≤◌, take}
 use Rattle.std.specs.Prelude.{vec_capacity}
 use Rattle.wasm_interp.proofs.cells.Cells.fill.Given as goal

@@ -1,3 +1,4 @@
+-- A machine that has begun stands for the configuration about to run the entry.
 use Rattle.std.proofs.Common.{[], refl, sym, subst, arith}
 use Rattle.faaslet_meaning.specs.Configuration.{Configuration, defined}
 use Rattle.faaslet_meaning.specs.ControlRules.{entered}

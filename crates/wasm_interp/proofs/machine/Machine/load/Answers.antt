@@ -1,3 +1,4 @@
+-- A load of private bytes is done at once, and any other goes piece by piece.
 use Rattle.std.proofs.Common.{subst, sym}
 use Rattle.faaslet_meaning.specs.MemoryRules.{load_at}
 use Rattle.wasm_interp.specs.declared.machine.Stage.{Stage}

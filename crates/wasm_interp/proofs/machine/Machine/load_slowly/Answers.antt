@@ -1,3 +1,4 @@
+-- A load begun piece by piece is the load of the definition.
 use Rattle.std.proofs.Common.{◌≡◌, ◌+◌, ◌≤◌, ap, sym, arith, length, drop, refl}
 use Rattle.faaslet_meaning.specs.Memory.{Memory}
 use Rattle.wasm_interp.specs.Parts.{SoFar}

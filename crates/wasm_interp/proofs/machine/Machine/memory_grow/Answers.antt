@@ -1,3 +1,4 @@
+-- `memory.grow` grows exactly where the definition lets it.
 use Rattle.std.proofs.Common.{◌∷◌, ◌∙◌, ap, drop}
 use Rattle.wasm_interp.proofs.AccessSteps.{grow_done, grow_refused}
 use Rattle.wasm_interp.proofs.machine.Machine.memory_grow.Goals as goal

@@ -1,3 +1,4 @@
+-- `memory.size` answers the pages of the memory.
 use Rattle.std.proofs.Common.{◌≡◌, ◌∙◌, ap, subst}
 use Rattle.faaslet_meaning.specs.Limits.{push}
 use Rattle.faaslet_meaning.specs.Memory.{Memory, pages_of}

@@ -1,3 +1,4 @@
+-- One instruction, whichever part of the machine runs it.
 use Rattle.std.proofs.Common.{◌∙◌, subst, sym, ap, refl}
 use Rattle.faaslet_meaning.specs.Configuration.{Next}
 use Rattle.faaslet_meaning.specs.Step.{begin, with_rest}

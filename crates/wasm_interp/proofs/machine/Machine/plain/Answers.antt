@@ -1,3 +1,4 @@
+-- An instruction of the thread alone, of the whole machine.
 use Rattle.std.proofs.Common.{subst, sym}
 use Rattle.faaslet_meaning.specs.declared.instr.Instr.{Instr}
 use Rattle.wasm_interp.specs.Goes.{Done, instruction}

@@ -1,3 +1,4 @@
+-- The rest of a load after a reply is what the definition goes on with.
 use Rattle.std.proofs.Common.{◌≡◌, ◌+◌, ◌-◌, subst, false, Option}
 use Rattle.faaslet_meaning.specs.Memory.{reads}
 use Rattle.faaslet_meaning.specs.MemoryRules.{load_on}

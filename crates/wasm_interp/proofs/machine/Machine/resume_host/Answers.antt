@@ -1,3 +1,4 @@
+-- The reply to a host call is what the definition goes on with.
 use Rattle.std.proofs.Common.{sym, subst}
 use Rattle.faaslet_meaning.specs.Fine.{ground_of, Waits, count}
 use Rattle.faaslet_meaning.proofs.SoundSteps.{finished_ok}

@@ -1,3 +1,4 @@
+-- The reply to a piece is what the definition goes on with.
 use Rattle.std.proofs.Common.{◌≡◌, ◌+◌, ◌-◌, ◌*◌, ◌^◌, ◌<◌, ◌≤◌, ◌∙◌, length, take, ap, sym, subst, arith, true, false}
 use Rattle.std.proofs.lemmas.List.{length-take-le}
 use Rattle.faaslet_meaning.specs.Configuration.{Begun}

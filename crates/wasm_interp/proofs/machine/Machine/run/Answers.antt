@@ -1,3 +1,4 @@
+-- Each turn is one step, so the run comes to the first stop.
 use Rattle.std.proofs.Common.{◌∙◌, sym, ap}
 use Rattle.faaslet_meaning.specs.Program.{program_of}
 use Rattle.faaslet_meaning.specs.Step.{step}

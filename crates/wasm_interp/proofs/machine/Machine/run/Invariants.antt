@@ -1,3 +1,4 @@
+-- So far the machine stands for what the steps of the definition came to.
 use Rattle.std.proofs.Common.{ℕ, List}
 use Rattle.faaslet_meaning.specs.declared.grant.Grant.{Grant}
 use Rattle.faaslet_meaning.specs.declared.module.Module.{Module}

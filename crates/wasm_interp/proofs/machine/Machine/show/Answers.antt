@@ -1,3 +1,4 @@
+-- What is told at a stop is what the machine stands for there.
 use Rattle.std.proofs.Common.{subst}
 use Rattle.wasm_interp.specs.declared.machine.Pending.{Pending}
 use Rattle.wasm_interp.specs.StandsFor.{PendingStands}

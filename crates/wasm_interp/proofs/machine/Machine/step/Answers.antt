@@ -1,3 +1,4 @@
+-- One turn pays for its instruction and does it, or ends a block.
 use Rattle.std.proofs.Common.{◌-◌, ◌∙◌, ◌<◌, subst, sym, ap, refl, arith}
 use Rattle.faaslet_meaning.specs.declared.instr.Instr.{Instr}
 use Rattle.faaslet_meaning.specs.Configuration.{Next, Configuration}

@@ -1,3 +1,4 @@
+-- A store of private bytes is done at once, and any other goes piece by piece.
 use Rattle.std.proofs.Common.{◌≡◌, ◌∙◌, Some, subst, sym}
 use Rattle.faaslet_meaning.specs.LoadStore.{bytes_of}
 use Rattle.faaslet_meaning.specs.MemoryRules.{store_at}

@@ -1,3 +1,4 @@
+-- A store begun piece by piece is the store of the definition.
 use Rattle.std.proofs.Common.{◌≡◌, ◌∙◌, ap, sym, true}
 use Rattle.faaslet_meaning.specs.declared.grant.Mode.TheVariants.{Write as write_mode}
 use Rattle.faaslet_meaning.specs.Memory.{shared_pieces}

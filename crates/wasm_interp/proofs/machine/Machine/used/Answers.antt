@@ -1,3 +1,4 @@
+-- The fuel used is what was given less what is left.
 use Rattle.std.proofs.Common.{arith}
 use Rattle.wasm_interp.proofs.Standing.{kept_at, fuel_left}
 use Rattle.wasm_interp.proofs.machine.Machine.used.Goals as goal

@@ -1,3 +1,4 @@
+-- The rest of a store after a reply is what the definition goes on with.
 use Rattle.std.proofs.Common.{◌+◌, ◌-◌, ◌∙◌, ap, subst, true, Option}
 use Rattle.faaslet_meaning.specs.Memory.{pieces, write_on}
 use Rattle.wasm_interp.specs.declared.machine.PieceAsk.{PieceAsk}

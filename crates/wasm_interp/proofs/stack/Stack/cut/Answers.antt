@@ -1,3 +1,4 @@
+-- Dropping so many of the topmost.
 use Rattle.std.proofs.Common.{◌∙◌, ap, ◌-◌, length, drop, arith}
 use Rattle.std.specs.Prelude.{reverse}
 use Rattle.std.proofs.lemmas.List.{length-reverse}

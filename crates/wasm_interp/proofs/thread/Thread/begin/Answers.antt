@@ -1,3 +1,4 @@
+-- A thread that has begun stands for the configuration about to run the entry.
 use Rattle.std.proofs.Common.{◌≡◌, ◌∙◌, ◌++◌, List, ℕ, Option, [], ap, refl}
 use Rattle.std.specs.Prelude.{replicate}
 use Rattle.wasm_interp.specs.Cells.{Held}

@@ -1,3 +1,4 @@
+-- An operation of two operands answers its row, or traps.
 use Rattle.std.proofs.Common.{◌∙◌, sym, refl, arith}
 use Rattle.faaslet_meaning.specs.Integers.{binary, binary_row, numeric_of}
 use Rattle.wasm_num.proofs.Classes.{of_binary}

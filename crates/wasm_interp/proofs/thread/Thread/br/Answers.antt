@@ -1,3 +1,4 @@
+-- `br` branches to the label of its number.
 use Rattle.std.proofs.Common.{◌∙◌, sym, subst}
 use Rattle.faaslet_meaning.specs.Configuration.{Next}
 use Rattle.wasm_interp.specs.Stands.{Follows}

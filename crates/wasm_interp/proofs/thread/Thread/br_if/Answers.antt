@@ -1,3 +1,4 @@
+-- `br_if` branches where its operand is not zero.
 use Rattle.std.proofs.Common.{◌∙◌, sym, ap, subst, refl}
 use Rattle.faaslet_meaning.specs.declared.instr.Instr.TheVariants.{BrIf}
 use Rattle.faaslet_meaning.specs.Configuration.{Next, goes}

@@ -1,3 +1,4 @@
+-- `br_table` takes the label of its index, or the last.
 use Rattle.std.proofs.Common.{◌∙◌, sym, ap, subst, refl}
 use Rattle.std.specs.Prelude.{slice_get, unwrap_or}
 use Rattle.std.specs.Int.{w32}

@@ -1,3 +1,4 @@
+-- A comparison answers its row.
 use Rattle.std.proofs.Common.{sym, ap, refl, arith, Ok}
 use Rattle.faaslet_meaning.specs.Integers.{compare, compare_row, truth, numeric_of}
 use Rattle.wasm_num.proofs.Classes.{of_compare}

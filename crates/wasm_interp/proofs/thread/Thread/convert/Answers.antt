@@ -1,3 +1,4 @@
+-- A conversion answers its row.
 use Rattle.std.proofs.Common.{refl, arith}
 use Rattle.faaslet_meaning.specs.Integers.{convert, convert_row, numeric_of}
 use Rattle.wasm_num.proofs.Classes.{of_convert}

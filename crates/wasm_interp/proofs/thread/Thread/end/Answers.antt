@@ -1,3 +1,4 @@
+-- At an `end` the block is left, or the frame.
 use Rattle.wasm_interp.proofs.Opening.{end_closes}
 use Rattle.wasm_interp.proofs.thread.Thread.end.Goals as goal
 

@@ -1,3 +1,4 @@
+-- A label is entered where there is room for it.
 use Rattle.std.proofs.Common.{◌+◌, ◌≤◌, length, ⊎_elim}
 use Rattle.std.proofs.lemmas.Bool.{both_ways, cases_lt}
 use Rattle.wasm_interp.proofs.Labels.{enter_follows, full_follows}

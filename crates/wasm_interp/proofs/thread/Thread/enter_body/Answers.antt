@@ -1,3 +1,4 @@
+-- Entering a body puts its zeros and its frame where there is room.
 use Rattle.std.proofs.Common.{◌≡◌, ◌-◌, sym, refl, arith, length}
 use Rattle.std.proofs.lemmas.Bool.{both_ways}
 use Rattle.wasm_interp.proofs.Entering.{call_traps, call_enters}

@@ -1,3 +1,4 @@
+-- A host call takes its arguments and asks, or traps where its buffer is too long.
 use Rattle.std.proofs.Common.{◌∙◌, ap, sym, refl, subst, arith, take, drop, map, Ok, Err}
 use Rattle.std.specs.Prelude.{reverse}
 use Rattle.std.specs.Int.{w32}

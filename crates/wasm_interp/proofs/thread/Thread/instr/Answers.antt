@@ -1,3 +1,4 @@
+-- The next instruction of the frame is that of what is left of its block.
 use Rattle.wasm_interp.proofs.Settling.{instr_is}
 use Rattle.wasm_interp.proofs.thread.Thread.instr.Goals as goal
 

@@ -1,3 +1,4 @@
+-- A call goes to the host or into a body, as the function says.
 use Rattle.std.proofs.Common.{◌∙◌, sym, subst}
 use Rattle.faaslet_meaning.specs.Configuration.{Next, hosted, defined}
 use Rattle.faaslet_meaning.specs.ControlRules.{call}

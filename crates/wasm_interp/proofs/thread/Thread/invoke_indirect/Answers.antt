@@ -1,3 +1,4 @@
+-- A call through the table finds its element, or traps as the definition says.
 use Rattle.std.proofs.Common.{◌∙◌, ap, sym, subst, refl, Some}
 use Rattle.faaslet_meaning.specs.declared.instr.Instr.TheVariants.{CallIndirect}
 use Rattle.faaslet_meaning.specs.Configuration.{Next}

@@ -1,3 +1,4 @@
+-- A branch to a label goes to its place and unwinds both stacks.
 use Rattle.wasm_interp.proofs.Settling.{jump_is}
 use Rattle.wasm_interp.proofs.thread.Thread.jump.Goals as goal
 

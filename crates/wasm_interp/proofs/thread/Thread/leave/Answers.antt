@@ -1,3 +1,4 @@
+-- Leaving a block drops its label and keeps its values.
 use Rattle.wasm_interp.proofs.Labels.{leave_follows}
 use Rattle.wasm_interp.proofs.thread.Thread.leave.Goals as goal
 

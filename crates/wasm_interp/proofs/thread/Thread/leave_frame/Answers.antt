@@ -1,3 +1,4 @@
+-- Leaving a frame keeps its results and drops its locals.
 use Rattle.wasm_interp.proofs.Leaving.{results_fit, frame_left}
 use Rattle.wasm_interp.proofs.thread.Thread.leave_frame.Goals as goal
 

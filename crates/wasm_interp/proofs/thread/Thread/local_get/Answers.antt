@@ -1,3 +1,4 @@
+-- `local.get` pushes the local of its number.
 use Rattle.std.proofs.Common.{rules, ◌+◌, ◌<◌, length, sym, ◌∙◌}
 use Rattle.wasm_interp.proofs.LocalSteps.{local_there, local_within, local_is, get_follows}
 use Rattle.wasm_interp.proofs.thread.Thread.local_get.Goals as goal

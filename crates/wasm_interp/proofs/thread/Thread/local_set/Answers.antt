@@ -1,3 +1,4 @@
+-- `local.set` writes the local of its number.
 use Rattle.std.proofs.Common.{◌∙◌, ap, sym, subst}
 use Rattle.faaslet_meaning.specs.Step.{plain_step}
 use Rattle.faaslet_meaning.specs.Limits.{with_values}

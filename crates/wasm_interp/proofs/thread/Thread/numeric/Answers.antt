@@ -1,3 +1,4 @@
+-- A numeric instruction answers its row, by the class of its code.
 use Rattle.std.proofs.Common.{◌∙◌, ◌≤◌, ap, subst, arith, inl, inr, Some, length}
 use Rattle.faaslet_meaning.specs.Integers.{Numeric}
 use Rattle.wasm_interp.proofs.Numerics.{operands, operated}

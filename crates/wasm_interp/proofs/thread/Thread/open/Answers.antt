@@ -1,3 +1,4 @@
+-- Entering a block puts its label where there is room.
 use Rattle.std.proofs.Common.{◌∙◌, sym, ap, subst, None, Some, ℕ, refl}
 use Rattle.faaslet_meaning.specs.declared.instr.Instr.{Instr}
 use Rattle.faaslet_meaning.specs.Configuration.{Next}

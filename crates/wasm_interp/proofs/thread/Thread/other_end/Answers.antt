@@ -1,3 +1,4 @@
+-- At an `else` the `if` is left.
 use Rattle.std.proofs.Common.{◌≡◌, ◌∙◌, ◌<◌, sym, ap, subst, arith, lit<, Some, length}
 use Rattle.std.specs.Prelude.{slice_get}
 use Rattle.wasm_interp.specs.declared.thread.Label.{Label as Mark}

@@ -1,3 +1,4 @@
+-- Each instruction of the thread alone does what its rule says.
 use Rattle.wasm_interp.proofs.Settling.{does_as}
 use Rattle.wasm_interp.proofs.thread.Thread.own.Goals as goal
 

@@ -1,3 +1,4 @@
+-- A push that finds no room is the trap of the definition.
 use Rattle.std.proofs.Common.{arith}
 use Rattle.wasm_interp.proofs.Values.{room_follows, full_follows}
 use Rattle.wasm_interp.proofs.thread.Thread.put.Goals as goal

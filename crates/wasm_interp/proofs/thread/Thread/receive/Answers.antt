@@ -1,3 +1,4 @@
+-- The results of a callee or a host call come onto the values.
 use Rattle.std.proofs.Common.{ℕ, sym, subst, Ok}
 use Rattle.std.specs.Prelude.{Option}
 use Rattle.faaslet_meaning.specs.Configuration.{Next}

@@ -1,3 +1,4 @@
+-- A local of the frame is the value so far above its base.
 use Rattle.std.proofs.Common.{rules, ◌+◌, ◌<◌, length}
 use Rattle.wasm_interp.proofs.LocalSteps.{set_there, local_within, set_follows}
 use Rattle.wasm_interp.proofs.thread.Thread.set_local.Goals as goal

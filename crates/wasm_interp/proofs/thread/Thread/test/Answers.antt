@@ -1,3 +1,4 @@
+-- A test answers its row.
 use Rattle.std.proofs.Common.{refl, arith}
 use Rattle.faaslet_meaning.specs.Integers.{test, test_row, numeric_of}
 use Rattle.wasm_num.proofs.Classes.{of_test}

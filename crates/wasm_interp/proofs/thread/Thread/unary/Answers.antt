@@ -1,3 +1,4 @@
+-- An operation of one operand answers its row.
 use Rattle.std.proofs.Common.{refl, arith}
 use Rattle.faaslet_meaning.specs.Integers.{unary, unary_row, numeric_of}
 use Rattle.wasm_num.proofs.Classes.{of_unary}

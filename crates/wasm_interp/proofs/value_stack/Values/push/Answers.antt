@@ -1,4 +1,5 @@
-use Rattle.std.proofs.Common.{◌≡◌, ◌∙◌, ◌<◌, ◌∷◌, ap, arith, length}
+-- A pushed value is marked, and is the topmost.
+use Rattle.std.proofs.Common.{◌∙◌, ◌<◌, ◌∷◌, ap, arith}
 use Rattle.std.specs.Prelude.{vec_capacity}
 use Rattle.wasm_interp.proofs.ValueCells.{push_keeps, push_is, length_is}
 use Rattle.wasm_interp.proofs.value_stack.Values.push.Goals as goal

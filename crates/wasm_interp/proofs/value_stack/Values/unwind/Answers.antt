@@ -1,3 +1,4 @@
+-- One value is kept by writing it over the lowest that goes.
 use Rattle.std.proofs.Common.{◌∙◌, ◌∷◌, ap, ◌-◌, length, drop, arith}
 use Rattle.wasm_interp.proofs.Lists.{unwound}
 use Rattle.wasm_interp.proofs.value_stack.Values.unwind.Goals as goal
