@@ -28,11 +28,12 @@ use Rattle.session_meaning.proofs.AsksGranted.{first_ok}
 use Rattle.session_meaning.proofs.GrantedAsks.{kids_after}
 use Rattle.session_meaning.proofs.GrantedCalls.{ProgressOk, call_step_ok, replied_ok}
 use Rattle.session_meaning.proofs.Goes.{goes_quiet, goes_on, goes_run, told_more}
-use Rattle.session_meaning.proofs.OneEntry.{RegionsOk, Left, table_regions, table_opens}
+use Rattle.session_meaning.proofs.OneEntry.{RegionsOk, Left}
+use Rattle.session_meaning.proofs.TableEntries.{table_regions, table_opens}
 use Rattle.session_meaning.proofs.OneQuestion.{KidsOk, Served}
 use Rattle.session_meaning.proofs.OwnHistory.{told_on_table_none}
 use Rattle.session_meaning.proofs.RecordsKept.{ChildrenStay, ShortOutput, kin_same, states_changed, children_changed}
-use Rattle.session_meaning.proofs.Worlds.{get_here, get_apart}
+use Rattle.session_meaning.proofs.LegalEntries.{get_here, get_apart}
 use Rattle.session_meaning.proofs.CallsAlike.{Came, MachineOk, OpenOk, Through, CallOk, WorldOk, Calm, runs_alike, counts_alike, counted_more, calls_changed, put_apart, put_here, some_same}
 
 -- ---- The machine goes on by itself.

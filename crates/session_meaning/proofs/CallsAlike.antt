@@ -23,7 +23,7 @@ use Rattle.faaslet_meaning.specs.Goes.{Goes}
 use Rattle.session_meaning.proofs.OneEntry.{RegionsOk}
 use Rattle.session_meaning.proofs.OneQuestion.{KidsOk}
 use Rattle.session_meaning.proofs.RecordsKept.{RecordsOk, ChildrenStay, Kin}
-use Rattle.session_meaning.proofs.Worlds.{get_here, get_apart}
+use Rattle.session_meaning.proofs.LegalEntries.{get_here, get_apart}
 
 -- ---- Runs under what is told alike.
 

@@ -31,7 +31,8 @@ use Rattle.session_meaning.specs.World.{Object, unused, World, entered, start, r
 use Rattle.session_meaning.specs.WorldTold.{told_at, told, RanBy, CallsRan, CallsFit}
 use Rattle.session_meaning.specs.Events.{open_at, why, why_take, took, asked, asked_by, finished, finished_by, step, Stand, Worlds}
 use Rattle.session_meaning.proofs.Objects.{are_made, local_led, global_led, ObjectsAre, LedTo, local_start, local_long, global_start, global_long}
-use Rattle.session_meaning.proofs.OneEntry.{past, local_told, global_told, RegionsOk, table_regions, table_opens}
+use Rattle.session_meaning.proofs.OneEntry.{past, local_told, global_told, RegionsOk}
+use Rattle.session_meaning.proofs.TableEntries.{table_regions, table_opens}
 use Rattle.session_meaning.proofs.OneQuestion.{KidsOk, GrantsFit, LookStands, question_served}
 use Rattle.session_meaning.proofs.OwnHistory.{told_on, told_on_table_none}
 use Rattle.session_meaning.proofs.RecordsKept.{children_more, record_more, forward_more, backward_more}
@@ -42,7 +43,7 @@ use Rattle.session_meaning.proofs.CallEvents.{asked_ok, take_ok, finish_ok, ends
 -- ---- What a plan must say.
 
 -- the functions of a plan fit its keys
-abbrev FunctionsFit : Plan → Type 0
+abbrev pub FunctionsFit : Plan → Type 0
 FunctionsFit plan = (n : ℕ) (f : NamedFunction) → slice_get plan.functions n ≡ Some f → GrantsFit plan f.function
 
 abbrev RoomsFit : Plan → Type 0
@@ -51,7 +52,7 @@ RoomsFit plan = (n : ℕ) (f : NamedFunction) → slice_get plan.functions n ≡
 pub all_get : {A : Type 0} (P : A → Type 0) (xs : List A) (n : ℕ) (x : A) → All P xs → slice_get xs n ≡ Some x → P x
 all_get P xs n x all e = subst P (get_or_from_slice_get xs n x x e) (all n x (slice_get_within xs n x e))
 
-functions_fit : (plan : Plan) → CallsFit plan → FunctionsFit plan
+pub functions_fit : (plan : Plan) → CallsFit plan → FunctionsFit plan
 functions_fit plan fit n f e m g at = all_get (GrantFits plan.keys) f.function.grants m g (all_get (λ f. All (GrantFits plan.keys) f.function.grants) plan.functions n f fit.grants e) at
 
 rooms_fit : (plan : Plan) → CallsFit plan → RoomsFit plan
@@ -83,7 +84,7 @@ look_no_want t maker parent child = by (option_and_then (slice_get t.records) (c
     by None h = h
     by (Some r) h = told_no_want r.state h
 
-look_stands : (plan : Plan) (w : World) (call : ℕ) (o : Open) (s : State) (q : Question) → RegionsOk plan w → HistoriesLead plan (asked w call o s q) → LookStands w call q
+pub look_stands : (plan : Plan) (w : World) (call : ℕ) (o : Open) (s : State) (q : Question) → RegionsOk plan w → HistoriesLead plan (asked w call o s q) → LookStands w call q
 look_stands plan w call o s (ask OnTable (Operation.look c)) ok lead = subst (λ t. IsTrue (table.may t call (look call c))) (sym ok.table) (last_may (empty_table plan.hosts (callables plan)) w.table_history call (look call c) legal)
   where
     one : entries (ask OnTable (Operation.look c)) (table.reply w.table call (look call c)) ≡ entry OnTable (Operation.look c) (table.reply w.table call (look call c)) ∷ []

@@ -21,7 +21,8 @@ use Rattle.session_meaning.specs.Cut.{Part, kept, rank, cut_object, cut_open, cu
 use Rattle.session_meaning.specs.CutReport.{numbered, each_state, Lines, joined, all_lines, is_request_of, lines_of}
 use Rattle.session_meaning.proofs.Tables.{get_cut}
 use Rattle.session_meaning.proofs.WorldParts.{length_cut, open_cut}
-use Rattle.session_meaning.proofs.OneStep.{Own, asking_cut}
+use Rattle.session_meaning.proofs.OneStep.{asking_cut}
+use Rattle.session_meaning.proofs.KeptAsks.{Own}
 use Rattle.session_meaning.proofs.Whole.{all, everything, kept_all, whole, plan_all}
 use Rattle.session_meaning.proofs.FoldedCut.{Ready, Along, Both, kept_map}
 use Rattle.session_meaning.proofs.Enabled.{cut_obstacle, obstacle_cut, get_past}

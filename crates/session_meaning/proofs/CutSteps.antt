@@ -13,10 +13,12 @@ use Rattle.session_meaning.specs.World.{World, first_world}
 use Rattle.session_meaning.specs.Events.{open_at, why, why_take, why_ask, why_end, why_open, took, asked_by, finished_by, step, Stand, world, Worlds}
 use Rattle.session_meaning.specs.Cut.{Part, rank, cut, blank, cut_plan, call_of, cut_event, cut_events, cut_why, calls_of, part_of, CutStep, world_cut as cut_by}
 use Rattle.std.proofs.lemmas.Option.{slice_get_cases}
-use Rattle.session_meaning.proofs.OneStep.{step_kept, HasRecord, step_left}
+use Rattle.session_meaning.proofs.OneStep.{step_kept, HasRecord}
+use Rattle.session_meaning.proofs.OtherSteps.{step_left}
 use Rattle.session_meaning.proofs.Enabled.{why_cut}
 use Rattle.session_meaning.proofs.Invariants.{AsksGranted, ClosedIn, Grows, grows_on}
-use Rattle.session_meaning.proofs.TwoWorlds.{Agrees, Inv, agrees_before, agrees_first, agrees_part, all_fit, closed_by_names, first_inv, get_index, own, ready, step_grows, step_inv, two_worlds}
+use Rattle.session_meaning.proofs.TwoWorlds.{agrees_part, closed_by_names, first_inv, get_index, step_inv, two_worlds}
+use Rattle.session_meaning.proofs.WorldInvariants.{Agrees, Inv, agrees_before, agrees_first, all_fit, own, ready, step_grows}
 
 pub inv_end : (part : Part) (plan : Plan) (w : World) (es : List Event) → AsksGranted → ClosedIn plan part.functions part.keys → Agrees part (fold (step plan) w es).table.records → Inv part plan w → Inv part plan (fold (step plan) w es)
 inv_end part plan w [] law closed agrees inv = inv

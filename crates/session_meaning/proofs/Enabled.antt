@@ -24,7 +24,8 @@ use Rattle.session_meaning.specs.Cut.{Part, kept, rank, cut_channel, cut_questio
 use Rattle.session_meaning.proofs.Regions.{blocked_cut}
 use Rattle.session_meaning.proofs.Tables.{AllFit, get_cut, passes_cut, child_of_cut, child_of_kept}
 use Rattle.session_meaning.proofs.WorldParts.{Held, length_cut, local_at_cut, global_at_cut, local_at_held, global_at_held, open_cut}
-use Rattle.session_meaning.proofs.OneStep.{keeps_channel, keeps_question, ask_channel, one_true, two_true, asking_cut, ended_cut, Apart, Own}
+use Rattle.session_meaning.proofs.OneStep.{keeps_channel, ask_channel, one_true, two_true, asking_cut, ended_cut}
+use Rattle.session_meaning.proofs.KeptAsks.{keeps_question, Apart, Own}
 
 abbrev pub cut_obstacle : Part → Obstacle → Obstacle
 cut_obstacle part (held ch holder) = held (cut_channel part.keys ch) (rank part.calls holder)

@@ -159,6 +159,10 @@ picked_from plan (suc n) w x = pick_by (offered plan w) (slice_get (offered plan
 abbrev pub picked : Plan → ℕ → ℕ → Option (List Event)
 picked plan n seed = picked_from plan n (first_world plan) seed
 
+-- what is seen of the world of what a seed picks
+abbrev pub seen_of : {A : Type 0} → Plan → ℕ → ℕ → (World → A) → Option A
+seen_of plan n seed see = option_map (λ events. see (world plan events)) (picked plan n seed)
+
 -- the report of what a seed picks
 abbrev pub traced : Plan → ℕ → ℕ → Option (List ℕ)
-traced plan n seed = option_map (λ events. world_report plan (world plan events)) (picked plan n seed)
+traced plan n seed = seen_of plan n seed (world_report plan)

@@ -1,10 +1,15 @@
--- What a session file gives is well formed as far as it goes, a file has one answer, and a draft with all modules is a plan.
-use Rattle.std.proofs.Common.{◌≡◌, ℕ, ◌+◌, ◌≤◌, List, [], ◌∷◌, length, map, All, Option, Some, None, option_map, ◌*◌, fold, max, sum_by, ap₂, Result, Ok, Err, refl, sym, ap, subst, ◌∙◌, arith}
+-- What a session file gives is well formed as far as it goes, a file has exactly one answer, and a draft with all modules is a plan.
+use Rattle.std.proofs.Common.{◌≡◌, ℕ, ◌+◌, ◌≤◌, Bool, true, false, true≢false, ltb-false, List, [], ◌∷◌, length, map, nat_lt, All, Option, Some, None, option_map, ◌*◌, fold, max, sum_by, ap₂, Result, Ok, Err, refl, sym, ap, subst, ◌∙◌, arith}
+use Rattle.std.specs.Str.{is_utf8}
+use Rattle.std.proofs.lemmas.Bool.{ltb-true}
+use Rattle.std.proofs.lemmas.Str.{IsUtf8-from_is_utf8, is_utf8-from_IsUtf8}
 use Rattle.std.proofs.lemmas.List.{length-map}
 use Rattle.hex.specs.Hex.{decode_of}
 use Rattle.serde_json.specs.Data.{Data}
+use Rattle.serde_json.specs.Read.{read}
 use Rattle.faaslet_meaning.specs.declared.module.Module.{Module}
 use Rattle.faaslet_meaning.specs.Fresh.{all_of, cons_both}
+use Rattle.session_meaning.specs.declared.fault.Kind.TheVariants as kind
 use Rattle.session_meaning.specs.declared.fault.SessionList.{SessionList}
 use Rattle.session_meaning.specs.declared.fault.SessionList.TheVariants.{Keys, Functions, Requests, Session}
 use Rattle.session_meaning.specs.Plan.{NamedFunction, Plan}
@@ -12,7 +17,8 @@ use Rattle.session_meaning.specs.Draft.{DraftFunction, Draft, function_of, plan_
 use Rattle.session_meaning.specs.WellFormed.{KeepsLimits, ModuleFits, WellFormedDraft, WellFormed, own_pages, largest_quota}
 use Rattle.session_meaning.specs.Registry as registry
 use Rattle.session_meaning.specs.SessionText.{KeyText, GrantText, FunctionText, RequestText, SessionText, session_text}
-use Rattle.session_meaning.specs.SessionFile.{Answer, then_do, on, hex_bytes, in_turn, capped, add_key, add_function, grant, allow, entitle, add_request, planned, Planned, plan_of_text, plan_of_tree, IsTree, PlanOf, too_many_bytes, no_tree, has_tree, FileFits}
+use Rattle.session_meaning.specs.SessionLimits.{file_limit}
+use Rattle.session_meaning.specs.SessionFile.{Answer, refused, then_do, on, hex_bytes, in_turn, capped, add_key, add_function, grant, allow, entitle, add_request, planned, Planned, plan_of_text, plan_of_tree, IsTree, PlanOf, too_many_bytes, no_tree, has_tree, FileFits}
 use Rattle.session_meaning.proofs.Entries.{map-changed}
 use Rattle.session_meaning.proofs.KeptLimits.{IsBare, Leaves, keeps_module, keeps_new, keeps_key, keeps_function, keeps_grant, keeps_callee, keeps_request, passes_budget}
 
@@ -130,6 +136,18 @@ one_answer bytes a b (no_tree l none) (has_tree m tree is) = absurd (none tree i
 one_answer bytes a b (has_tree l tree is) (too_many_bytes m) = absurd (omega arith)
 one_answer bytes a b (has_tree l tree is) (no_tree m none) = absurd (none tree is)
 one_answer bytes a b (has_tree l s is) (has_tree m t so) = ap plan_of_tree (one_tree bytes s t is so)
+
+pub some_answer : (bytes : List ℕ) → (a : Answer Planned) × PlanOf bytes a
+some_answer bytes = by (nat_lt file_limit (length bytes)) refl (is_utf8 bytes) refl (read bytes) refl
+  where
+    short : nat_lt file_limit (length bytes) ≡ false → length bytes ≤ file_limit
+    short e = ltb-false file_limit (length bytes) e
+
+    by : (b : Bool) → nat_lt file_limit (length bytes) ≡ b → (c : Bool) → is_utf8 bytes ≡ c → (o : Option Data) → read bytes ≡ o → (a : Answer Planned) × PlanOf bytes a
+    by true e c f o g = (Err (refused kind.Long Session 0), too_many_bytes (ltb-true file_limit (length bytes) e))
+    by false e false f o g = (Err (refused kind.Json Session 0), no_tree (short e) λ tree is. absurd (true≢false (sym (is_utf8-from_IsUtf8 bytes is.text) ∙ f)))
+    by false e true f None g = (Err (refused kind.Json Session 0), no_tree (short e) λ tree is. let no : Some tree ≡ None = sym is.value ∙ g in absurd cc)
+    by false e true f (Some tree) g = (plan_of_tree tree, has_tree (short e) tree (record { text = IsUtf8-from_is_utf8 bytes f; value = g }))
 
 -- ---- A draft of which each function has its module is the draft of a plan.
 

@@ -18,7 +18,9 @@ use Rattle.session_meaning.proofs.Kept.{kept_push, all_push}
 use Rattle.session_meaning.proofs.Renumbered.{channels_cut}
 use Rattle.session_meaning.proofs.Tables.{AllFit, callable_cut, get_end}
 use Rattle.session_meaning.proofs.WorldParts.{length_filled, table_cut, table_left, length_cut, blank_cut_world}
-use Rattle.session_meaning.proofs.OneStep.{Apart, HasRecord, step_kept, step_left}
+use Rattle.session_meaning.proofs.OneStep.{HasRecord, step_kept}
+use Rattle.session_meaning.proofs.KeptAsks.{Apart}
+use Rattle.session_meaning.proofs.OtherSteps.{step_left}
 use Rattle.session_meaning.proofs.Whole.{everything, no_next, whole, blank_step, fit_all, rank_all}
 
 -- what one step needs

@@ -19,7 +19,8 @@ use Rattle.session_meaning.proofs.Tables.{AllFit, get_end, spot, first_place, fo
 use Rattle.session_meaning.proofs.Whole.{all, everything, fit_all}
 use Rattle.session_meaning.proofs.FoldedCut.{first_depth, filter_whole, callables_cut}
 use Rattle.session_meaning.proofs.Invariants.{ClosedIn, Grows, grows_on, push_front, Kin, KinAt, Like, kin_push, Goes, take_goes, submit_goes, submit_grows, finish_goes}
-use Rattle.session_meaning.proofs.TwoWorlds.{Agrees, agrees_before, all_fit, closed_by_names}
+use Rattle.session_meaning.proofs.TwoWorlds.{closed_by_names}
+use Rattle.session_meaning.proofs.WorldInvariants.{Agrees, agrees_before, all_fit}
 use Rattle.session_meaning.proofs.TableCuts.{Fine, CutSo, renamed, AskSo, MaySo, is_next, after_cut, ask_cut, may_cut, table_whole, cut_whole}
 
 -- ---- One entry, and the one that the cut has in its place.

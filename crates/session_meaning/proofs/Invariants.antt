@@ -21,7 +21,7 @@ use Rattle.session_meaning.specs.Plan.{Plan, NamedFunction}
 use Rattle.session_meaning.specs.OpenCall.{steps}
 use Rattle.session_meaning.specs.Cut.{Part}
 use Rattle.session_meaning.proofs.Kept.{length_changed}
-use Rattle.session_meaning.proofs.OneStep.{keeps_question, leaves_question, AsksOwn, GrantsOwn}
+use Rattle.session_meaning.proofs.KeptAsks.{keeps_question, leaves_question, AsksOwn, GrantsOwn}
 
 -- ---- What one call asks: of what it was granted alone.
 

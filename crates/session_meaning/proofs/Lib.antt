@@ -3,11 +3,14 @@ pub mod Regions
 pub mod Renumbered
 pub mod Tables
 pub mod WorldParts
+pub mod KeptAsks
 pub mod OneStep
+pub mod OtherSteps
 pub mod Whole
 pub mod FoldedCut
 pub mod Enabled
 pub mod Invariants
+pub mod WorldInvariants
 pub mod TwoWorlds
 pub mod CutSteps
 pub mod Paths
@@ -24,6 +27,7 @@ pub mod GrantedCalls
 pub mod AsksGranted
 pub mod WorldEnds
 pub mod NamedWorlds
+pub mod KeptNames
 pub mod NumbersStand
 pub mod Obstacles
 pub mod CutReports
@@ -33,6 +37,7 @@ pub mod TableCuts
 pub mod HistoryCuts
 pub mod ExampleWorlds
 pub mod Asked
+pub mod LegalEntries
 pub mod Worlds
 pub mod Rests
 pub mod Goes
@@ -40,6 +45,7 @@ pub mod OwnHistory
 pub mod Objects
 pub mod RecordsKept
 pub mod OneEntry
+pub mod TableEntries
 pub mod OneQuestion
 pub mod CallsAlike
 pub mod CallEvents
@@ -67,6 +73,7 @@ mod OwnEntries
 mod RanSession
 mod TrailRuns
 pub mod Entries
+pub mod OneSession
 pub mod KeptLimits
 pub mod FilePlans
 pub mod LoadPlans
@@ -74,4 +81,8 @@ mod ExampleFiles
 mod CutRows
 pub mod Taken
 mod RefusalRows
+mod LoadRuns
+mod DeepRuns
 pub mod WellFits
+pub mod OpenCalls
+pub mod KeptBack

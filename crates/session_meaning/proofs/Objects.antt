@@ -13,7 +13,7 @@ use Rattle.faaslet_meaning.specs.History.{left, region_rules}
 use Rattle.faaslet_meaning.proofs.Histories.{left_both}
 use Rattle.session_meaning.specs.Plan.{Key}
 use Rattle.session_meaning.specs.World.{Object, applied, unused}
-use Rattle.session_meaning.proofs.Worlds.{changed_next}
+use Rattle.session_meaning.proofs.LegalEntries.{changed_next}
 
 -- ---- Lists of objects, one for each key.
 

@@ -15,7 +15,8 @@ use Rattle.session_meaning.specs.Cut.{Part}
 use Rattle.session_meaning.proofs.Regions.{held_by}
 use Rattle.session_meaning.proofs.Tables.{AllFit, child_of_kept}
 use Rattle.session_meaning.proofs.WorldParts.{Held, local_at_held, global_at_held}
-use Rattle.session_meaning.proofs.OneStep.{keeps_channel, keeps_question}
+use Rattle.session_meaning.proofs.OneStep.{keeps_channel}
+use Rattle.session_meaning.proofs.KeptAsks.{keeps_question}
 use Rattle.session_meaning.proofs.Enabled.{keeps_half, halves_kept, locked}
 
 -- ---- The least of kept calls is kept.

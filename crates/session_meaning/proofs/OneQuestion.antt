@@ -29,7 +29,8 @@ use Rattle.session_meaning.proofs.GrantedAsks.{HasGrant, Any, InPages, InSize, A
 use Rattle.session_meaning.proofs.Kept.{get_changed_here}
 use Rattle.session_meaning.proofs.Objects.{pages_hold, local_long}
 use Rattle.session_meaning.proofs.RecordsKept.{get_front, RecordsOk, Forward, ChildrenStay, told_child, ShortOutput}
-use Rattle.session_meaning.proofs.OneEntry.{RegionsOk, local_found, local_region, global_found, global_region, Left, left_seq, left_local, left_global, left_submit, left_look}
+use Rattle.session_meaning.proofs.OneEntry.{RegionsOk, local_found, local_region, global_found, global_region, Left, left_seq, left_local, left_global}
+use Rattle.session_meaning.proofs.TableEntries.{left_submit, left_look}
 
 -- ---- What a call knows of its children.
 

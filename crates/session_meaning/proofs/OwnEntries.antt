@@ -1,15 +1,15 @@
 -- A worked session: what its calls were told, by their benches and counts. Two calls of a function that locks and unlocks a global
 -- value share a bench; a third is on another bench.
-use Rattle.std.proofs.Common.{◌≡◌, ℕ, List, [], ◌∷◌, refl}
+use Rattle.std.proofs.Common.{◌≡◌, ℕ, List, [], ◌∷◌, map, refl}
 use Rattle.std.specs.Prelude.{pos, codes, None, true, false}
 use Rattle.faaslet_meaning.specs.declared.call.CallRecord.{CallRecord}
 use Rattle.faaslet_meaning.specs.declared.call.CallState.TheVariants.{Finished}
 use Rattle.faaslet_meaning.specs.declared.grant.Channel.TheVariants.{Local, Global}
 use Rattle.faaslet_meaning.specs.declared.outcome.Outcome.TheVariants as outcome
 use Rattle.faaslet_meaning.specs.Channels.{RegionOperation, on_region, Reply}
-use Rattle.session_meaning.specs.Own.{Session, told, used_up}
+use Rattle.session_meaning.specs.Own.{Session, benches, host_of_bench, told, used_up}
 use Rattle.session_meaning.specs.Plan.{Plan}
-use Rattle.session_meaning.proofs.ExampleWorlds.{of_module, writes_key, wr, lock, named, request, one_key, plan_of}
+use Rattle.session_meaning.proofs.ExampleWorlds.{of_module, writes_key, wr, lock, named, request, one_key, plan_of, with_workers}
 
 abbrev plan : Plan
 plan = plan_of 1 one_key (named (codes "lock") (of_module lock writes_key []) ∷ named (codes "wr") (of_module wr writes_key []) ∷ []) (request (codes "a") 0 ∷ request (codes "b") 1 ∷ request (codes "c") 0 ∷ [])
@@ -64,3 +64,14 @@ told_last = refl
 
 all_used : used_up plan session 0 (Global 0) ≡ true
 all_used = refl
+
+-- ---- Two hosts with three workers each: benches 0 to 23 are of the first, 24 to 47 of the second, and the others are the session's.
+
+abbrev wide : Plan
+wide = with_workers 3 (plan_of 2 one_key [] [])
+
+hosts_of_benches : map (host_of_bench wide) (0 ∷ 7 ∷ 8 ∷ 23 ∷ 24 ∷ 47 ∷ []) ≡ 0 ∷ 0 ∷ 0 ∷ 0 ∷ 1 ∷ 1 ∷ []
+hosts_of_benches = refl
+
+all_benches : benches wide ≡ 48
+all_benches = refl

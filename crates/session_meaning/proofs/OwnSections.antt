@@ -44,7 +44,8 @@ use Rattle.session_meaning.proofs.OneEntry.{past}
 use Rattle.session_meaning.proofs.OwnHistory.{told_on}
 use Rattle.session_meaning.proofs.WellFits.{calls_fit, modules_fit, invocations_fit}
 use Rattle.session_meaning.proofs.WorldSections.{legal_at, legal_in}
-use Rattle.session_meaning.proofs.Worlds.{histories_lead, get_here, get_apart}
+use Rattle.session_meaning.proofs.Worlds.{histories_lead}
+use Rattle.session_meaning.proofs.LegalEntries.{get_here, get_apart}
 
 -- ---- Histories in which each Unlock finds a lock of its maker.
 

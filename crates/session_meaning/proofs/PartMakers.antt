@@ -1,5 +1,5 @@
 -- Makers and holders on the objects of closed keys, and whoever a reason against an event on a kept call names, are kept calls.
-use Rattle.std.proofs.Common.{◌≡◌, ◌⊎◌, ℕ, Bool, true, false, cond, List, [], ◌∷◌, Option, Some, None, refl, ◌∙◌, length, slice_get, option_map, subst}
+use Rattle.std.proofs.Common.{◌≡◌, ◌⊎◌, ℕ, Bool, true, false, cond, List, [], ◌∷◌, Option, Some, None, refl, sym, ◌∙◌, length, slice_get, option_map, subst}
 use Rattle.std.specs.Prelude.{nat_lt}
 use Rattle.std.specs.List.{AllByRecursion, list_all}
 use Rattle.std.proofs.lemmas.Bool.{and_parts}
@@ -17,12 +17,14 @@ use Rattle.session_meaning.specs.OpenCall.{Open, asking, Ended, ended}
 use Rattle.session_meaning.specs.World.{Object, World}
 use Rattle.session_meaning.specs.Events.{Obstacle, held, unfinished, obstacle, open_at, why, why_of, why_take, why_ask, why_end, why_open, Worlds}
 use Rattle.session_meaning.specs.Cut.{Part, rank, call_of, calls_of, part_of}
-use Rattle.session_meaning.specs.PartMakers.{OfPart, ObjectOfPart, MakersOfPart}
+use Rattle.session_meaning.specs.PartMakers.{OfPart, ObjectOfPart, MakersOfPart, KinOfPart}
 use Rattle.session_meaning.proofs.Kept.{get_kept, all_at}
 use Rattle.session_meaning.proofs.Regions.{held_by}
 use Rattle.session_meaning.proofs.WorldParts.{held_on, held_among}
-use Rattle.session_meaning.proofs.OneStep.{Own}
+use Rattle.session_meaning.proofs.KeptAsks.{Own}
 use Rattle.session_meaning.proofs.FoldedCut.{Ready}
+use Rattle.session_meaning.proofs.Invariants.{Kin, Like}
+use Rattle.session_meaning.proofs.TwoWorlds.{agrees_part}
 use Rattle.session_meaning.proofs.CutSteps.{passes_on}
 use Rattle.session_meaning.proofs.NumbersStand.{numbers_stand}
 use Rattle.session_meaning.proofs.WorldEnds.{end_inv, end_ready}
@@ -61,6 +63,25 @@ makers_of_part plan functions keys es w closed made =
       globals = λ key o e k. among plan functions keys w w.globals key o inv.held.globals e k;
       table = world_owned plan functions keys es w made;
     }
+
+-- ---- Parents and requests.
+
+pub kin_of_part : (plan : Plan) (functions keys : Names) (es : List Event) (w : World) → Closed plan functions keys → Worlds plan es w → KinOfPart plan functions keys w
+kin_of_part plan functions keys es w closed made =
+    record {
+      parents = λ call parent r e i h. like call parent r e i ((kin call r e).parent parent h);
+      requests = λ call r e i. like call r.request r e i (kin call r e).request;
+    }
+  where
+    part : Part
+    part = part_of plan functions keys w
+
+    kin : Kin part.functions w.table.records
+    kin = (end_inv plan functions keys es w closed made).kin
+
+    like : (call other : ℕ) (r : CallRecord) → slice_get w.table.records call ≡ Some r → part.calls call ≡ true → Like part.functions w.table.records other r.function → OfPart plan functions keys w other
+    like call other r e i l =
+        of_part plan functions keys w other (sym (agrees_part plan functions keys w other l.0 l.1) ∙ l.2 ∙ agrees_part plan functions keys w call r e ∙ i)
 
 -- ---- Whom a reason names.
 

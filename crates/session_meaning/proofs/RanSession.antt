@@ -21,6 +21,7 @@ use Rattle.session_meaning.specs.Own.{Session, own, told, used_up}
 use Rattle.session_meaning.specs.Plan.{Key, Plan, Names, is_function_of, is_key_of, ClosedAt, Closed, callables}
 use Rattle.session_meaning.specs.Ran.{Ran, ReplicaRan, CallRan, is_granted}
 use Rattle.session_meaning.specs.RanPart.{no_call, only_part, table_cut, RanPart}
+use Rattle.session_meaning.specs.Seen.{Seen, SpellsSession}
 use Rattle.session_meaning.proofs.RanParts.{ran_part}
 use Rattle.faaslet_meaning.proofs.ExampleRuns.{run, seen, seen_runs}
 use Rattle.session_meaning.proofs.ExampleWorlds.{of_module, writes_key, par, kid, lock, named, request, one_key, plan_of}
@@ -279,6 +280,35 @@ session_ran =
       calls = (parent_ran, (lock_ran, (first_ran, (second_ran, tt))));
       all_used = all_used;
     }
+
+-- ---- What is left of its objects, in lists of numbers: it spells this session.
+
+abbrev left_of_it : Seen
+left_of_it =
+    record {
+      records = session.records;
+      locals = ([] ∷ []) ∷ ([] ∷ []) ∷ [];
+      globals = ((8, 10 ∷ []) ∷ (8, 11 ∷ []) ∷ []) ∷ [];
+      table =
+          (16, 0 ∷ 0 ∷ 0 ∷ 0 ∷ [])
+          ∷ (16, 0 ∷ 2 ∷ 1 ∷ 0 ∷ [])
+          ∷ (16, 2 ∷ 0 ∷ 0 ∷ [])
+          ∷ (17, 2 ∷ 1 ∷ 8 ∷ [])
+          ∷ (0, 1 ∷ 0 ∷ 1 ∷ 0 ∷ [])
+          ∷ (0, 1 ∷ 0 ∷ 1 ∷ 0 ∷ [])
+          ∷ (16, 3 ∷ 2 ∷ 0 ∷ 1 ∷ [])
+          ∷ (16, 4 ∷ 2 ∷ 0 ∷ 21 ∷ 1 ∷ 0 ∷ 1 ∷ 0 ∷ [])
+          ∷ (0, 5 ∷ 0 ∷ 0 ∷ [])
+          ∷ (17, 4 ∷ 1 ∷ 0 ∷ 0 ∷ 5 ∷ 0 ∷ 3 ∷ 0 ∷ 2 ∷ 0 ∷ [])
+          ∷ (16, 3 ∷ 3 ∷ 0 ∷ 1 ∷ [])
+          ∷ (16, 4 ∷ 3 ∷ 0 ∷ 21 ∷ 1 ∷ 0 ∷ 1 ∷ 0 ∷ [])
+          ∷ (0, 5 ∷ 0 ∷ 1 ∷ [])
+          ∷ (16, 4 ∷ 0 ∷ 0 ∷ 42 ∷ 17 ∷ 0 ∷ 1 ∷ 4 ∷ [])
+          ∷ [];
+    }
+
+spells_it : SpellsSession left_of_it session
+spells_it = record { records = refl; locals = ((refl, tt), ((refl, tt), tt)); globals = (refl, tt); table = refl }
 
 -- ---- The part of the lock and its key.
 

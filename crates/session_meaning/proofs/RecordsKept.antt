@@ -13,7 +13,7 @@ use Rattle.faaslet_meaning.specs.Channels.{Reply}
 use Rattle.faaslet_meaning.specs.Call.{output_limit}
 use Rattle.faaslet_meaning.specs.Records.{is_child, child_of, calls_of, told_of}
 use Rattle.faaslet_meaning.specs.Table.{one_more_child}
-use Rattle.session_meaning.proofs.Worlds.{changed_next}
+use Rattle.session_meaning.proofs.LegalEntries.{changed_next}
 use Rattle.session_meaning.proofs.Invariants.{changed_back, push_back}
 
 -- ---- Finished children.

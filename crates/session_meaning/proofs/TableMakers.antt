@@ -18,7 +18,8 @@ use Rattle.session_meaning.specs.Cut.{Part, only, cut_table_entry, part_of}
 use Rattle.session_meaning.proofs.OneStep.{taken_by, finished_at, finished_of, asked_at, asked_of}
 use Rattle.session_meaning.proofs.Tables.{get_end}
 use Rattle.session_meaning.proofs.Invariants.{Grows, grows_on, push_front}
-use Rattle.session_meaning.proofs.TwoWorlds.{Agrees, agrees_before, agrees_first, agrees_part}
+use Rattle.session_meaning.proofs.TwoWorlds.{agrees_part}
+use Rattle.session_meaning.proofs.WorldInvariants.{Agrees, agrees_before, agrees_first}
 
 abbrev pub Owned : Part → ℕ × TableOperation → Type 0
 Owned part e = is_some (cut_table_entry part e) ≡ part.calls e.0

@@ -33,7 +33,8 @@ use Rattle.session_meaning.proofs.CutSteps.{below_there}
 use Rattle.session_meaning.proofs.Kept.{changed_id, length_changed, get_changed_here}
 use Rattle.session_meaning.proofs.Later.{push_stays, submitted_by}
 use Rattle.session_meaning.proofs.Schedules.{may_stand}
-use Rattle.session_meaning.proofs.TwoWorlds.{get_index, get_open}
+use Rattle.session_meaning.proofs.TwoWorlds.{get_index}
+use Rattle.session_meaning.proofs.WorldInvariants.{get_open}
 use Rattle.session_meaning.proofs.WellFits.{calls_fit}
 use Rattle.session_meaning.proofs.WorldEnds.{end_inv}
 use Rattle.session_meaning.proofs.TraceWeights.{times, times_more, times_less, machine_cost, cost, most, steps_cost, opened_cost, room, room_some, height, weight, weigh, weigh_more, weigh_changed, weigh_alike, weigh_push, filled_at}

@@ -66,7 +66,7 @@ labels_plain plan fine n r at =
 
 -- ---- Functions, one by one.
 
-functions_fit : (plan : Plan) → WellFormed plan → All (λ f. FunctionFits plan.keys (length plan.functions) (drafted f)) plan.functions
+pub functions_fit : (plan : Plan) → WellFormed plan → All (λ f. FunctionFits plan.keys (length plan.functions) (drafted f)) plan.functions
 functions_fit plan fine n f l =
     let few = length-map plan.functions drafted in
     let fits : FunctionFits plan.keys (length (map drafted plan.functions)) (slice_index_or (map drafted plan.functions) n (drafted f)) = fine.limits.functions n (drafted f) (omega (arith, l, few)) in

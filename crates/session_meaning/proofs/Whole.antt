@@ -19,7 +19,8 @@ use Rattle.session_meaning.specs.World.{Object, World}
 use Rattle.session_meaning.specs.Events.{step}
 use Rattle.session_meaning.specs.Cut.{Part, kept, rank, cut_entry, cut_object, cut_objects, cut_grant, cut_invocation, cut_channel, cut_operation, cut_question, cut_machine, cut_open, cut_record, blank_record, cut_table_entry, blank_entry, cut, blank, cut_named, cut_request, cut_plan, call_of, cut_event}
 use Rattle.session_meaning.proofs.Tables.{AllFit}
-use Rattle.session_meaning.proofs.OneStep.{Apart, HasRecord, step_kept}
+use Rattle.session_meaning.proofs.OneStep.{HasRecord, step_kept}
+use Rattle.session_meaning.proofs.KeptAsks.{Apart}
 
 abbrev pub all : ℕ → Bool
 all n = true

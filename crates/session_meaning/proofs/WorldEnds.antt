@@ -7,7 +7,8 @@ use Rattle.session_meaning.specs.World.{World, first_world}
 use Rattle.session_meaning.specs.Events.{Worlds}
 use Rattle.session_meaning.specs.Cut.{part_of}
 use Rattle.session_meaning.proofs.FoldedCut.{Ready}
-use Rattle.session_meaning.proofs.TwoWorlds.{Inv, agrees_part, Agrees, closed_by_names, ready, first_inv}
+use Rattle.session_meaning.proofs.TwoWorlds.{agrees_part, closed_by_names, first_inv}
+use Rattle.session_meaning.proofs.WorldInvariants.{Inv, Agrees, ready}
 use Rattle.session_meaning.proofs.CutSteps.{inv_end}
 use Rattle.session_meaning.proofs.Paths.{RequestsKept}
 use Rattle.session_meaning.proofs.Family.{world_family}

@@ -3,12 +3,12 @@ use Rattle.std.proofs.Common.{◌≡◌, [], ◌∷◌, refl}
 use Rattle.std.specs.Prelude.{◌++◌, Some, replicate, codes}
 use Rattle.std.specs.Fmt.{digits}
 use Rattle.session_meaning.specs.declared.event.Event.TheVariants.{Take, Ask, End}
-use Rattle.session_meaning.specs.declared.event.Why.TheVariants.{NoCall, NoHost, NotQueued, NotOpen, NotEnded, HasEnded, Holder}
+use Rattle.session_meaning.specs.declared.event.Why.TheVariants.{NoCall, NoHost, NotQueued, NotOpen, NotEnded, HasEnded, Holder, Child}
 use Rattle.faaslet_meaning.specs.Report.{line}
 use Rattle.faaslet_meaning.specs.Channels.{RegionOperation}
 use Rattle.session_meaning.specs.Plan.{NamedFunction, Plan}
 use Rattle.session_meaning.specs.Schedule.{number_of, next_of}
-use Rattle.session_meaning.proofs.ExampleWorlds.{of_module, writes_key, wr, rd, pu, pl, hold, lock, sec, kid, named, request, one_key, plan_of, SeenWorld, run_world, refused, reported, at_end, global_operations, local_operations, picked}
+use Rattle.session_meaning.proofs.ExampleWorlds.{of_module, writes_key, wr, rd, pu, pl, hold, lock, sec, par, kid, named, request, one_key, plan_of, SeenWorld, run_world, refused, reported, at_end, global_operations, local_operations, picked}
 
 -- a lock holds another call back until its holder has ended
 abbrev a_hold : NamedFunction
@@ -52,6 +52,20 @@ two_holds = plan_of 1 one_key (a_hold ∷ []) (request (codes "a") 0 ∷ request
 
 each_reason : refused (run_world two_holds (Take 0 0 ∷ Ask 0 ∷ Take 1 0 ∷ Ask 1 ∷ End 0 ∷ Ask 0 ∷ Ask 0 ∷ End 0 ∷ End 0 ∷ Take 0 0 ∷ Take 2 0 ∷ Take 1 1 ∷ [])) ≡ Holder 0 ∷ NotEnded ∷ HasEnded ∷ NotOpen ∷ NotQueued ∷ NoCall ∷ NoHost ∷ []
 each_reason = refl
+
+-- a parent waits for the first of its children, which is call 1
+abbrev adding : Plan
+adding = plan_of 1 [] (named (codes "par") (of_module par [] (1 ∷ [])) ∷ named (codes "kid") (of_module kid [] []) ∷ []) (request (codes "p") 0 ∷ [])
+
+abbrev awaiting : SeenWorld
+awaiting = run_world adding (Take 0 0 ∷ Ask 0 ∷ Ask 0 ∷ Ask 0 ∷ Take 2 0 ∷ End 2 ∷ Ask 0 ∷ [])
+
+awaiting_by : refused awaiting ≡ Child 1 ∷ Child 1 ∷ []
+awaiting_by = refl
+
+awaiting_report : reported adding awaiting ≡ line (codes "p stuck") ++ line (codes "blocked p child p.0")
+unfolding digits
+awaiting_report = refl
 
 -- a lock on a replica
 abbrev section : Plan

@@ -14,6 +14,7 @@ pub mod OpenCall
 pub mod World
 pub mod Events
 pub mod Schedule
+pub mod KeptBack
 pub mod SessionReport
 pub mod Keeping
 pub mod WorldTold

@@ -1,9 +1,11 @@
 -- How the lists that threads leave, in which each entry is a list of numbers, spell a session. This project's own.
 use Rattle.std.specs.Prelude.{◌≡◌, ℕ, List, [], ◌∷◌}
+use Rattle.std.specs.List.{AllByRecursion}
 use Rattle.faaslet_meaning.specs.declared.call.CallRecord.{CallRecord}
 use Rattle.faaslet_meaning.specs.Channels.{RegionOperation}
 use Rattle.faaslet_meaning.specs.History.{History}
-use Rattle.faaslet_meaning.specs.Spelling.{spelled, spelled_on_table, Spells}
+use Rattle.faaslet_meaning.specs.Table.{TableOperation}
+use Rattle.faaslet_meaning.specs.Spelling.{spelled, spelled_on_table, OperationFits, Spells}
 use Rattle.session_meaning.specs.Own.{Session}
 
 -- the makers and the spelled entries of an object
@@ -32,3 +34,7 @@ pub record SpellsSession (seen : Seen) (s : Session) : Type 0 where
   pub locals : SpellHosts seen.locals s.locals
   pub globals : SpellRegions seen.globals s.globals
   pub table : Spells spelled_on_table seen.table s.table_history
+
+-- the result of each call that is finished is an i32, as each `main` gives it
+abbrev pub ResultsFit : History TableOperation → Type 0
+ResultsFit history = AllByRecursion (λ e. OperationFits e.1) history

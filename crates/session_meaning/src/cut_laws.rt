@@ -1,9 +1,17 @@
 //! Laws over cuts of sessions. The bodies are empty: what counts is what they ensure.
 
-ghost use Rattle.std.specs.Prelude.{◌≡◌, ℕ, List, Some, option_map, true};
+ghost use Rattle.std.specs.Prelude.{◌≡◌, ◌++◌, ℕ, List, Some, option_map, slice_get, true};
+ghost use Rattle.faaslet_meaning.specs.declared.call.CallRecord.{CallRecord};
 ghost use Rattle.session_meaning.specs.declared.event.Event.{Event};
 ghost use Rattle.session_meaning.specs.declared.event.Why.TheVariants.{Child, Holder};
-ghost use Rattle.session_meaning.specs.CallNames.{CallsApart, DistinctLabels, DistinctNames, PathsApart, PlainLabels};
+ghost use Rattle.session_meaning.specs.CallNames.{
+  CallsApart,
+  DistinctLabels,
+  DistinctNames,
+  PathsApart,
+  PlainLabels,
+  call_name,
+};
 ghost use Rattle.session_meaning.specs.Cut.{
   CutStep,
   CutWorld,
@@ -17,7 +25,7 @@ ghost use Rattle.session_meaning.specs.Cut.{
 };
 ghost use Rattle.session_meaning.specs.Events.{Worlds, why};
 ghost use Rattle.session_meaning.specs.NamedCut.{events_by_name, NumbersStand, plan_by_name, world_by_name};
-ghost use Rattle.session_meaning.specs.PartMakers.{MakersOfPart, OfPart};
+ghost use Rattle.session_meaning.specs.PartMakers.{KinOfPart, MakersOfPart, OfPart};
 ghost use Rattle.session_meaning.specs.Plan.{Closed, Names, Plan};
 ghost use Rattle.session_meaning.specs.WellFormed.{WellFormed};
 ghost use Rattle.session_meaning.specs.World.{World};
@@ -68,6 +76,13 @@ pub fn distinct_paths()
         → DistinctLabels plan → PlainLabels plan → Worlds plan events w → PathsApart plan w.table.records }
 {}
 
+/// A call keeps its name, whatever events follow.
+pub fn calls_keep_names()
+    ensures { (plan : Plan) (events more : List Event) (w v : World) (call : ℕ) (r : CallRecord)
+        → Worlds plan events w → Worlds plan (events ++ more) v → slice_get w.table.records call ≡ Some r
+        → call_name plan v.table.records call ≡ call_name plan w.table.records call }
+{}
+
 /// Two plans with one cut by names, and two lists of events with one cut by names, make two worlds with
 /// one cut by names.
 pub fn one_cut_by_name()
@@ -91,6 +106,12 @@ pub fn numbers_stand()
 pub fn makers_are_of_part()
     ensures { (plan : Plan) (functions keys : Names) (events : List Event) (w : World)
         → Closed plan functions keys → Worlds plan events w → MakersOfPart plan functions keys w }
+{}
+
+/// The parent of a call of the closed functions, and the first call of its request, are such calls.
+pub fn kin_are_of_part()
+    ensures { (plan : Plan) (functions keys : Names) (events : List Event) (w : World)
+        → Closed plan functions keys → Worlds plan events w → KinOfPart plan functions keys w }
 {}
 
 /// Whoever holds the lock for which an event on a call of these functions may not stand is such a call, and

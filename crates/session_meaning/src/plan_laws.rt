@@ -29,6 +29,11 @@ pub fn file_has_one_answer()
     ensures { (bytes : List ℕ) (a b : Answer Planned) → PlanOf bytes a → PlanOf bytes b → a ≡ b }
 {}
 
+/// Each list of bytes has an answer.
+pub fn file_has_an_answer()
+    ensures { (bytes : List ℕ) → (a : Answer Planned) × PlanOf bytes a }
+{}
+
 /// An entry with which the limits are kept is not refused, and neither is a draft within its budgets.
 pub fn limits_refuse_nothing_else()
     ensures sessions { (hosts workers : ℕ) → KeepsLimits (empty hosts workers)
