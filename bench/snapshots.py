@@ -1,9 +1,10 @@
 #!/usr/bin/env python3
 """Measures what makes a machine ready for a call: restoring its snapshot, and setting it back after pages were written.
 
-It prints times in microseconds, the least of many turns, beside those of a plain copy of as many bytes; and where
-valgrind is installed the machine instructions of one turn. It takes a copy of the crates that the program
-`snapshot_times` uses, adds that to them, and has the toolchain prove and build it; or it takes a program that is built.
+It prints times in microseconds, the least of many turns, beside those of a plain copy of the whole image and of the pages
+that were written alone; and where valgrind is installed the machine instructions of one turn. It takes a copy of the
+crates that the program `snapshot_times` uses, adds that to them, and has the toolchain prove and build it; or it takes a
+program that is built.
 """
 import argparse
 import pathlib
@@ -128,16 +129,16 @@ class Program:
 
 
 def show(program):
+    copies = {pages: program.cell(1, "copy", pages)[1] for pages in (1, 16, 17, 1024)}
     for pages in PAGES:
         _, anew = program.times(pages, "build", 0, 10)
-        print(f"{pages} pages: built anew {anew:,.0f} us", flush=True)
+        print(f"{pages} pages: built anew {anew:,.0f} us; plain {copies[pages]}", flush=True)
         for written in sorted({0, 1, 16, pages}):
             if written <= pages:
                 write, reset = program.cell(pages, "reset", written)
                 _, restore = program.cell(pages, "restore", written)
-                print(f"    {written} written (in {write:,.1f} us): {restore}; {reset}", flush=True)
-    for pages in (1, 16, 17, 1024):
-        print(f"plain copy of {pages} pages: {program.cell(1, 'copy', pages)[1]}", flush=True)
+                plain = f"; of these alone a plain {copies[written]}" if written else ""
+                print(f"    {written} written (in {write:,.1f} us): {restore}; {reset}{plain}", flush=True)
 
 
 def main():

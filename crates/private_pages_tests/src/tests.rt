@@ -88,10 +88,11 @@ fn growth_stops_at_the_quota(rt: HostRuntime) -> Result<(), Fail> {
     assert!(rt; (pages.room(), pages.quota(), pages.pages()) == (4, 4, 0));
     pages.restore(&image, 3);
     assert!(rt; (pages.room(), pages.quota(), pages.pages()) == (4, 3, 2));
+    pages.write(0, &[1]);
     assert!(rt; pages.grow(1) == Ok(2));
     assert!(rt; pages.grow(1) == Err(Full));
     assert!(rt; pages.grow(0) == Ok(3));
-    assert!(rt; pages.dirty() == 0);
+    assert!(rt; pages.dirty() == 1);
     Ok(())
 }
 
