@@ -13,8 +13,9 @@ use Rattle.faaslet_meaning.specs.Lists.{passes_at}
 use Rattle.faaslet_meaning.specs.Records.{is_open, is_finished}
 use Rattle.faaslet_meaning.specs.Table.{Table, finish, finished_state}
 use Rattle.call_table.specs.Did.{Did}
-use Rattle.call_table.specs.Inside.{IsTable, HasSpare, channels_of}
+use Rattle.call_table.specs.Inside.{IsInside, IsTable, HasSpare, channels_of, table_in}
 use Rattle.call_table.specs.declared.spare.Spare.{Spare}
+use Rattle.call_table.specs.declared.store.Store.TheInside.{Inside}
 use Rattle.call_table.proofs.Held.{changed_set, have_len, spare_at}
 use Rattle.call_table.proofs.Places.{passes_there, passes_so}
 
@@ -60,6 +61,29 @@ module _ (hosts : ℕ) (fs : List Callable) (rs : List CallRecord) (ss : List (O
       let out_room = h.output_room in
       let num_room = h.counts_room in
       record { no_output = h.no_output; no_counts = h.no_counts; output_fits = omega arith; counts_fit = omega arith }
+
+-- The same of a store that is seen as a table, in which the call is open.
+module _ (i : Inside) (t : Table) (call : ℕ) (h : IsInside i) (is : table_in i ≡ t) (was_open : passes_at (λ r. is_open r.state) t.records call ≡ true) where
+  pub open_inside : passes_at (λ r. is_open r.state) i.records.items call ≡ true
+  open_inside = subst (λ (u : Table). passes_at (λ r. is_open r.state) u.records call ≡ true) (sym is) was_open
+
+  pub within_records : call < length i.records.items
+  within_records = (passes_there (λ r. is_open r.state) i.records.items call open_inside).inside
+
+  pub within_spares : call < length i.spares.items
+  within_spares = inside_spares i.hosts i.functions.items i.records.items i.spares.items h call open_inside
+
+  pub has_spare : (o : Option Spare) → o ≡ get_or i.spares.items call o → o ≡ None → ⊥
+  has_spare = never_none i.hosts i.functions.items i.records.items i.spares.items h call open_inside
+
+  pub short_inside : (output : List ℕ) → passes_at (λ r. nat_le (length output) r.room) t.records call ≡ true → passes_at (λ r. nat_le (length output) r.room) i.records.items call ≡ true
+  short_inside output short = subst (λ (u : Table). passes_at (λ r. nat_le (length output) r.room) u.records call ≡ true) (sym is) short
+
+  pub place : (o : Option Spare) (s : Spare) (output counts : List ℕ) → o ≡ get_or i.spares.items call o → o ≡ Some s → passes_at (λ r. nat_le (length output) r.room) t.records call ≡ true
+      → passes_at (λ r. length counts == channels_of t.functions r.function) t.records call ≡ true → HasPlace output counts s
+  place o s output counts at e short many =
+      has_place i.hosts i.functions.items i.records.items i.spares.items h call open_inside o s output counts at e (short_inside output short)
+      (subst (λ (u : Table). passes_at (λ r. length counts == channels_of u.functions r.function) u.records call ≡ true) (sym is) many)
 
 pub finish_did : (t : Table) (call : ℕ) (r : CallRecord) (host bench order : ℕ) (outcome : Outcome) (used : ℕ) (output counts : List ℕ) → slice_get t.records call ≡ Some r
     → r.state ≡ Taken host bench order → passes_at (λ x. is_open x.state) t.records call ≡ true

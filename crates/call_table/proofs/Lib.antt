@@ -1,3 +1,4 @@
+-- The lemmas by subject.
 pub mod Child
 pub mod Counting
 pub mod Counts

@@ -1,1 +1,2 @@
+-- The lemmas by subject.
 pub mod Leader

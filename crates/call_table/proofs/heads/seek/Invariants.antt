@@ -1,3 +1,4 @@
+-- So far no record waits.
 use Rattle.std.proofs.Common.{◌-◌, length}
 use Rattle.call_table.specs.Heads.{NoneBefore, anywhere}
 use Rattle.call_table.proofs.heads.seek.Given as goal

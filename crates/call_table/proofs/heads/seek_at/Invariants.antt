@@ -1,3 +1,4 @@
+-- So far no record waits at this host.
 use Rattle.std.proofs.Common.{◌-◌, length}
 use Rattle.call_table.specs.Heads.{NoneBefore, at_host}
 use Rattle.call_table.proofs.heads.seek_at.Given as goal

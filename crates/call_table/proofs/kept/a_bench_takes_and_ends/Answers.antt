@@ -1,3 +1,4 @@
+-- What an entry of the bench itself leaves of its calls.
 use Rattle.call_table.proofs.Mine.{took, ended}
 use Rattle.call_table.proofs.kept.a_bench_takes_and_ends.Goals as goal
 

@@ -1,3 +1,4 @@
+-- So far the bytes that were added up and those of the rest are all.
 use Rattle.std.proofs.Common.{◌≡◌, ◌+◌, ◌*◌, ◌≤◌, drop}
 use Rattle.faaslet_meaning.specs.Records.{bytes_of}
 use Rattle.call_table.proofs.records.bytes_of.Given as goal

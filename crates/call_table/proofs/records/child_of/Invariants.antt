@@ -1,3 +1,4 @@
+-- So far no record is the child that is looked for.
 use Rattle.std.proofs.Common.{◌≡◌, drop}
 use Rattle.faaslet_meaning.specs.Lists.{first, places_from, places}
 use Rattle.faaslet_meaning.specs.Records.{is_child}

@@ -1,3 +1,4 @@
+-- So far the best of those passed, against the rest, is the best of all.
 use Rattle.std.proofs.Common.{◌≡◌, ◌<◌, None, IfSome, length, drop}
 use Rattle.host_scheduler.proofs.Leader.{leader}
 use Rattle.host_scheduler.proofs.loads.fewest.Given as goal

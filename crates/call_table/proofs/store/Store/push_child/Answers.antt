@@ -48,8 +48,6 @@ returns-clause-ok c =
     let made : CallRecord = record c.in_ok-queued.queued { request = p.request; parent = Some p.call; child = p.child; depth = p.depth + 1 } in
     let now : c.self.inside.records.items ≡ old ++ made ∷ [] = ap (λ (t : Table). t.records) (c.self.view_is ∙ c.in_ok-push.ensures.ok) in
     let of = c.requires.parent in
-    let within = slice_get_within old p.call of.of of.there in
-    let len = ap length now ∙ length_push old made in
     let r = c.index_mut.result.now in
     let new : CallRecord = record r { children = p.child + 1 } in
     let before = c.args.self.now in
