@@ -1,8 +1,14 @@
--- What stands at a place of a list.
-use Rattle.std.proofs.Common.{◌≡◌, ℕ, zero, suc, ◌+◌, ◌<◌, List, [], ◌∷◌, length, set, get_or, Some, None, refl, sym, ap, ◌∙◌, arith}
+-- What stands at a place of a list, and of a tier.
+use Rattle.std.proofs.Common.{◌≡◌, ℕ, zero, suc, ◌+◌, ◌<◌, List, [], ◌∷◌, length, set, get_or, Some, None, refl, sym, ap, ◌∙◌, subst, arith}
 use Rattle.std.proofs.Common as std
 use mathlib.Core.Option.{some, some-injective}
 use lib.ListN.{get_elem?}
+use Rattle.shared_region.specs.Shared.{Shared}
+use Rattle.turn_cell.specs.declared.cell.Turns.{Turns}
+use Rattle.turn_cell.proofs.Frames.{there, reads}
+use Rattle.region_tier.specs.declared.cells.Tier.{Tier}
+use Rattle.region_tier.specs.Opened.{IsOpened}
+use Rattle.region_tier.specs.Tiers.{cells_of}
 
 pub same_at : {A : Type 0} (xs : List A) (k : ℕ) (a b : A) → get_elem? xs k ≡ some a → get_elem? xs k ≡ some b → a ≡ b
 same_at xs k a b p q = some-injective a b (sym p ∙ q)
@@ -20,3 +26,8 @@ pub read_at : {A : Type 0} (xs : List A) (k : ℕ) (a : A) → k < length xs →
 read_at [] k a h e = absurd (omega arith)
 read_at (x ∷ xs) zero a h e = ap some (sym e)
 read_at (x ∷ xs) (suc k) a h e = read_at xs k a (omega arith) e
+
+-- ---- A tier's cells.
+
+pub opened_at : (tier : Tier) (key : ℕ) (t : Turns Shared) → get_elem? (cells_of tier) key ≡ some t → IsOpened t
+opened_at tier key t e = subst (λ (u : Turns Shared). IsOpened u) (reads (cells_of tier) key t t e) (tier.opened key t (there (cells_of tier) key t e)).0

@@ -5,6 +5,7 @@ mod attempt;
 mod cells;
 mod closing;
 mod making;
+mod notes;
 mod opening;
 mod rows;
 mod slots;

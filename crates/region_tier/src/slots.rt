@@ -1,9 +1,10 @@
 //! The cell of a key, and the pass of a key.
 ghost use Rattle.std.specs.Prelude.{◌≡◌, ◌<◌, Some, None, length, slice_set};
+ghost use Rattle.turn_cell.specs.Cell.{pass_number};
 ghost use mathlib.Core.Option.{some};
 ghost use lib.ListN.{get_elem?};
 ghost use Rattle.region_tier.specs.Opened.{IsOpened};
-ghost use Rattle.region_tier.specs.Tiers.{IsIn, cells_of, slots_of};
+ghost use Rattle.region_tier.specs.Tiers.{IsIn, RegionPass, cells_of, slots_of};
 
 use crate::cells::{Passes, Tier};
 use shared_region::Region;
@@ -20,6 +21,17 @@ impl Tier {
 }
 
 impl Passes {
+    /// The number of this maker, read at a key whose pass is there.
+    pub fn number(&self, key: u32) -> u32
+        requires { IsIn (slots_of self.now) key }
+        ensures { (p : RegionPass) × (get_elem? (slots_of self.now) key ≡ some (Some p)) × (result ≡ pass_number p) }
+    {
+        let Some(pass) = &self.slots[key as usize] else {
+            unreachable!()
+        };
+        pass.number()
+    }
+
     pub(crate) fn take_out(&mut self, key: u32) -> Pass<Region>
         requires { IsIn (slots_of self.old) key }
         ensures at { get_elem? (slots_of self.old) key ≡ some (Some result) }

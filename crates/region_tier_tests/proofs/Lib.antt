@@ -1,1 +1,4 @@
 pub mod OneMaker
+pub mod Pairs
+pub mod Orders
+pub mod SeenBoth

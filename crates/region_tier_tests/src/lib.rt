@@ -2,8 +2,12 @@
 #![tactic(auto)]
 
 mod alone;
+mod makers;
+mod told;
 
 pub use alone::append_alone;
+pub use makers::two_makers;
+pub use told::{Told, write_read_tell};
 
 #[cfg(test)]
 mod tests;

@@ -13,3 +13,15 @@ fn one_maker_appends(rt: HostRuntime) {
     });
     assert!(rt; right == Some(true));
 }
+
+#[test]
+fn the_first_maker_is_told_what_the_second_read(rt: HostRuntime) {
+    let Some(Told { tier, passes, read }) = write_read_tell(&rt, rt.alloc()) else {
+        panic!(rt; "no memory");
+    };
+    let mut ends = tier.close(passes);
+    let found = ends
+        .pop()
+        .and_then(|(region, _list)| region.bytes().first().copied());
+    assert!(rt; read == 7 && found == Some(7));
+}
