@@ -138,10 +138,10 @@ chain_submits j s h f b c aside scratch same w sound long end bytes room callee 
     }
 
 -- bytes of the second buffer at the front of the scratch
-front_bytes : (scratch aside : List ℕ) (n : ℕ) → n ≤ length aside → take n (over scratch 0 (take n (drop 0 aside))) ≡ take n aside
+pub front_bytes : (scratch aside : List ℕ) (n : ℕ) → n ≤ length aside → take n (over scratch 0 (take n (drop 0 aside))) ≡ take n aside
 front_bytes scratch aside n h = brought scratch (take n aside) n (length-take-le n aside h)
 
-front_room : (scratch aside : List ℕ) (n : ℕ) → n ≤ length aside → n ≤ length (over scratch 0 (take n (drop 0 aside)))
+pub front_room : (scratch aside : List ℕ) (n : ℕ) → n ≤ length aside → n ≤ length (over scratch 0 (take n (drop 0 aside)))
 front_room scratch aside n h =
     let t = take n aside in
     let rest = drop (0 + length t) scratch in
@@ -170,7 +170,7 @@ chain_end {M} shape a f d j s children k b c only bring len same w sound long en
 
 -- ---- the first step
 
-first_append : (j : Invocation) (s : State) (cs bs : List Check) → first_trap j s cs ≡ None → first_trap j s (cs ++ bs) ≡ first_trap j s bs
+pub first_append : (j : Invocation) (s : State) (cs bs : List Check) → first_trap j s cs ≡ None → first_trap j s (cs ++ bs) ≡ first_trap j s bs
 first_append j s [] bs e = refl
 first_append j s (a ∷ cs) bs e = by (passes j s a) (first_append j s cs bs) e
   where

@@ -15,16 +15,17 @@ use Rattle.host_calls.specs.declared.call_host.CallHost.{CallHost}
 use Rattle.host_calls.specs.declared.call_host.CallHost.TheVariants as host
 use Rattle.host_calls.specs.declared.call_host.CallLimits.{CallLimits}
 use Rattle.host_calls.specs.CallHosts.{HasShort, Knows, host_of, refusal_of}
-use Rattle.host_calls.specs.Calls.{acts_at, trap_at, stage_of, IsAllowed, IsBegun, IsFresh, HasInput}
+use Rattle.faaslet_meaning.specs.Fine.{has_result}
+use Rattle.host_calls.specs.Calls.{acts_at, trap_at, stage_of, gives_result, IsAllowed, IsBegun, IsFresh, HasInput}
 use Rattle.host_calls.specs.Children.{noted_at}
 
 -- ---- arguments
 
-abbrev at : List ℕ → ℕ → ℕ
+abbrev pub at : List ℕ → ℕ → ℕ
 at args k = slice_index args k
 
 -- what a form makes of the arguments
-abbrev from_args : Form → List ℕ → HostCall
+abbrev pub from_args : Form → List ℕ → HostCall
 from_args (of_none h) args = h
 from_args (of_one f) args = f (at args 0)
 from_args (of_two f) args = f (at args 0) (at args 1)
@@ -88,7 +89,7 @@ refused j s known l (host.OutputSize c) k =
 refused j s known l (host.ReadOutput c off ptr len) k =
     awaited s.children c (child_trap off len) refl ∙ child_trap_is off len (noted_at s.children c) ∙ ap (λ cs. refusal_of cs l (host.ReadOutput c off ptr len)) k.children
 
-trap_first : (j : Invocation) (s : State) (cs bs : List Check) (t : Trap) → first_trap j s cs ≡ Some t → first_trap j s (cs ++ bs) ≡ Some t
+pub trap_first : (j : Invocation) (s : State) (cs bs : List Check) (t : Trap) → first_trap j s cs ≡ Some t → first_trap j s (cs ++ bs) ≡ Some t
 trap_first j s [] bs t e = absurd (cc)
 trap_first j s (a ∷ cs) bs t e = by (passes j s a) (trap_first j s cs bs t) e
   where
@@ -160,3 +161,12 @@ has_input known l (host.ChainCall f ptr len) input e n = tt
 has_input known l (host.AwaitCall c) input e n = tt
 has_input known l (host.OutputSize c) input e n = tt
 has_input known l (host.ReadOutput c off ptr len) input e n = tt
+
+pub gives_is : (known : List (Option ℕ)) (input : ℕ) (x : CallHost) → gives_result (stage_of known input x) ≡ has_result (host_of x)
+gives_is known input host.InputSize = refl
+gives_is known input (host.ReadInput off ptr len) = refl
+gives_is known input (host.WriteOutput ptr len) = refl
+gives_is known input (host.ChainCall f ptr len) = refl
+gives_is known input (host.AwaitCall c) = refl
+gives_is known input (host.OutputSize c) = refl
+gives_is known input (host.ReadOutput c off ptr len) = refl

@@ -1,7 +1,14 @@
 pub mod Lists
+pub mod Keeping
 pub mod Buffers
 pub mod Passing
 pub mod Hosts
+pub mod StateHosts
 pub mod Loops
 pub mod CallSteps
 pub mod CallReplies
+pub mod StateSteps
+pub mod StateMachines
+pub mod StateReplies
+pub mod StateForms
+pub mod Fitting

@@ -1,12 +1,9 @@
 -- A host call on calls in progress: what the definition has left of it, and what a step of it comes to. This project's own.
-use Rattle.std.specs.Prelude.{◌≡◌, ℕ, ◌+◌, ◌<◌, ◌≤◌, List, [], ◌∷◌, ◌++◌, Option, Some, None, Ok, Err, IsTrue, length, take, unwrap_or}
+use Rattle.std.specs.Prelude.{◌≡◌, ℕ, ◌+◌, ◌<◌, ◌≤◌, Bool, true, false, List, [], ◌∷◌, ◌++◌, Option, Some, None, Ok, Err, IsTrue, length, take, unwrap_or, is_some}
 use Rattle.faaslet_meaning.specs.declared.ask.Ask.{Ask}
-use Rattle.faaslet_meaning.specs.declared.ask.Ask.TheVariants as an_ask
-use Rattle.faaslet_meaning.specs.declared.ask.AskOp.TheVariants as op
 use Rattle.faaslet_meaning.specs.declared.ask.Reply.{Reply}
 use Rattle.faaslet_meaning.specs.declared.ask.Reply.TheVariants as reply
 use Rattle.faaslet_meaning.specs.declared.grant.Channel.{Channel}
-use Rattle.faaslet_meaning.specs.declared.grant.Channel.TheVariants as a_channel
 use Rattle.faaslet_meaning.specs.declared.grant.Grant.{Grant}
 use Rattle.faaslet_meaning.specs.declared.grant.Mode.TheVariants as mode
 use Rattle.faaslet_meaning.specs.declared.outcome.Trap.{Trap}
@@ -199,6 +196,22 @@ stage_of known input (host.ReadOutput c off ptr len) = stage.Looks c off (fresh_
 abbrev pub HasInput : CallStage → List ℕ → Type 0
 HasInput (stage.TakesInput off b) input = off + b.len ≤ length input
 HasInput _ input = Unit {0}
+
+-- whether it ends with a result, where it ends without a trap
+abbrev pub gives_result : CallStage → Bool
+gives_result (stage.Gives n) = true
+gives_result (stage.Chains f b) = true
+gives_result (stage.Submits f len) = true
+gives_result (stage.Awaits c) = true
+gives_result _ = false
+
+abbrev pub EndsSo : Bool → CallStep → Type 0
+EndsSo b (step.Done o) = is_some o ≡ b
+EndsSo b _ = Unit {0}
+
+-- what a step tells has a result where the call has one, and what is left of it does too
+abbrev pub GivesSo : Bool → CallStep → CallStage → Type 0
+GivesSo b told t = EndsSo b told × (gives_result t ≡ b)
 
 -- how many bytes it adds to the output
 abbrev pub added_by : CallStage → ℕ

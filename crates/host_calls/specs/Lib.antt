@@ -3,5 +3,9 @@ pub mod Buffers
 pub mod Reads
 pub mod Parts
 pub mod Children
+pub mod Known
+pub mod StateHosts
+pub mod Acts
+pub mod States
 pub mod CallHosts
 pub mod Calls

@@ -15,3 +15,7 @@ key_of grants k = unwrap_or (option_map (λ g. g.key) (slice_get grants k)) 0
 abbrev pub buffer_trap : List Grant → Memory → Mode → ℕ → ℕ → Option Trap
 buffer_trap grants m needs ptr len =
     if lies_in m ptr len then (if all_granted grants needs (shared_pieces m ptr len) then None else Some Denied) else Some OutOfBounds
+
+-- the size of the key at a place, or 0 where there is none
+abbrev pub size_of : List Grant → ℕ → ℕ
+size_of grants k = unwrap_or (elim (slice_get grants k) [ None ↦ None | Some g ↦ Some g.size ]) 0

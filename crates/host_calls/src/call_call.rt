@@ -1,16 +1,17 @@
 //! A host call on calls as it goes on, from question to question.
 
-ghost use Rattle.std.specs.Prelude.{◌≡◌, ℕ, ◌+◌, ◌<◌, ◌≤◌, List, Option, Some, None, IfErr, IfOk, drop, length, slice_range, take};
+ghost use Rattle.std.specs.Prelude.{◌≡◌, ℕ, ◌+◌, ◌<◌, ◌≤◌, List, Option, Some, None, IfErr, IfOk, drop, false, length, slice_range, take, true};
 ghost use Rattle.faaslet_meaning.specs.Asks.{reply_of};
 ghost use Rattle.faaslet_meaning.specs.Call.{replied, serve};
 ghost use Rattle.faaslet_meaning.specs.CallState.{Invocation, State};
 ghost use Rattle.faaslet_meaning.specs.Channels.{Reply as Answer};
 ghost use Rattle.faaslet_meaning.specs.Checks.{checks, first_trap};
+ghost use Rattle.faaslet_meaning.specs.Fine.{has_result};
 ghost use Rattle.faaslet_meaning.specs.HostCalls.{HostCall};
 ghost use Rattle.wasm_interp.specs.StandsFor.{AsksHost};
 ghost use Rattle.host_calls.specs.Buffers.{IsWithin};
 ghost use Rattle.host_calls.specs.CallHosts.{AreSmall, HasShort, Knows};
-ghost use Rattle.host_calls.specs.Calls.{here, IsOf, stage_of, trap_at, added_by, HasInput, IsFresh, AtQuestion, IsAllowed, IsBegun, IsAmid, Belongs, Shows, Comes, sends, writes, chains};
+ghost use Rattle.host_calls.specs.Calls.{here, IsOf, stage_of, trap_at, added_by, HasInput, IsFresh, AtQuestion, IsAllowed, IsBegun, IsAmid, Belongs, Shows, Comes, GivesSo, gives_result, sends, writes, chains};
 ghost use Rattle.host_calls.specs.declared.call_call.CallStage.TheVariants as stages;
 
 use crate::buffer::{fetch, send, sized};
@@ -130,6 +131,7 @@ impl CallCall {
             → IsBegun call.stage j s h) }
         ensures fresh { IfOk result (λ call. IsFresh call.stage) }
         ensures input { IfOk result (λ call. (input : List ℕ) → length input ≡ input_len → HasInput call.stage input) }
+        ensures gives { IfOk result (λ call. (h : HostCall) → AsksHost ask h → gives_result call.stage ≡ has_result h) }
     {
         let host = CallHost::of(ask);
         let limits = CallLimits {
@@ -168,6 +170,7 @@ impl CallCall {
         ensures shows { (j : Invocation) (s : State) (children : List (Option ℕ)) → j.program.grants ≡ grants.now
             → Shows j s (sends j s (here M.memory machine.old children) span) result self.new.stage (here M.memory machine.new children) }
         ensures no_want { result ≡ CallStep.Want → ⊥ }
+        ensures gives { GivesSo false result self.new.stage }
         ensures sends { (span : Span) × (self.new.stage ≡ stages.SendsOut span) }
     {
         let reached = send(machine, span);
@@ -189,6 +192,7 @@ impl CallCall {
         ensures shows { (j : Invocation) (s : State) (children : List (Option ℕ)) → j.program.grants ≡ grants.now
             → Shows j s (writes j s (here M.memory machine.old children) span) result self.new.stage (here M.memory machine.new children) }
         ensures no_want { result ≡ CallStep.Want → ⊥ }
+        ensures gives { GivesSo false result self.new.stage }
         ensures writes { (span : Span) × (self.new.stage ≡ stages.Writes span) }
     {
         let reached = fetch(machine, span);
@@ -215,6 +219,7 @@ impl CallCall {
             → Shows j s (chains j s (here M.memory machine.old children) function span) result self.new.stage (here M.memory machine.new children)
             × IsAllowed j children self.new.stage }
         ensures no_want { result ≡ CallStep.Want → ⊥ }
+        ensures gives { GivesSo true result self.new.stage }
     {
         let reached = fetch(machine, span);
         match reached.piece {
@@ -248,6 +253,7 @@ impl CallCall {
             → IsOf (here M.memory machine.old children) s → IsBegun self.old.stage j s h
             → Comes j s (serve j s h) result self.new.stage (here M.memory machine.new children) }
         ensures no_want { result ≡ CallStep.Want → ⊥ }
+        ensures gives { GivesSo (gives_result self.old.stage) result self.new.stage }
     {
         if let Some(trap) = self.stage.refusal(grants, machine) {
             return CallStep::Trap(trap);
@@ -283,6 +289,7 @@ impl CallCall {
             → reply_of reply machine.old.scratch ≡ Some answer
             → Comes j s (replied j s answer) result self.new.stage (here M.memory machine.new known.new) }
         ensures want { result ≡ CallStep.Want → reply ≡ Reply.Want }
+        ensures gives { GivesSo (gives_result self.old.stage) result self.new.stage }
     {
         sized(machine);
         match (self.stage, reply) {
@@ -338,6 +345,7 @@ impl CallCall {
             → reply_of r machine.old.scratch ≡ Some answer
             → Comes j s (replied j s answer) result self.new.stage (here M.memory machine.new known.new) }
         ensures want { result ≡ CallStep.Want → last ≡ Some Reply.Want }
+        ensures gives { GivesSo (gives_result self.old.stage) result self.new.stage }
     {
         match last {
             None => self.first(grants.as_slice(), input, machine),

@@ -51,13 +51,13 @@ pub struct CallLimits {
     pub room: u32,
 }
 
-fn unless(holds: bool, trap: Trap) -> Option<Trap>
+pub(crate) fn unless(holds: bool, trap: Trap) -> Option<Trap>
     ensures { result ≡ (if holds then None else Some trap) }
 {
     if holds { None } else { Some(trap) }
 }
 
-fn fits(off: u32, len: u32, size: u32) -> bool
+pub(crate) fn fits(off: u32, len: u32, size: u32) -> bool
     ensures { result ≡ nat_le (off + len) size }
 {
     u64::from(off) + u64::from(len) <= u64::from(size)

@@ -11,7 +11,7 @@ use crate::span::{Span, next_piece};
 use faaslet_meaning::{Grant, Home, Linear, Mode, Trap};
 use wasm_interp::Machine;
 
-fn includes(mode: Mode, needs: Mode) -> bool
+pub fn includes(mode: Mode, needs: Mode) -> bool
     ensures { result ≡ includes mode needs }
 {
     match mode {
