@@ -1,0 +1,9 @@
+pub mod Arguments
+pub mod Stepping
+pub mod Privacy
+pub mod Counting
+pub mod Serving
+pub mod Placing
+pub mod Standing
+pub mod Beginning
+pub mod Replying

@@ -1,0 +1,6 @@
+pub mod Counted
+pub mod Begun
+pub mod Places
+pub mod Hosts
+pub mod Turns
+pub mod Lending
