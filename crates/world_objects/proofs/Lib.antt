@@ -1,0 +1,6 @@
+mod LockCounts
+mod Moved
+mod Sizes
+mod Placed
+mod Serving
+mod Worlds
