@@ -1,11 +1,12 @@
 //! The entries of a session file as they stand there, borrowed from its tree.
 
-ghost use Rattle.std.specs.Prelude.{◌≡◌, codes, map, option_map, option_and_then, IfOk};
+ghost use Rattle.std.specs.Prelude.{◌≡◌, ℕ, List, option_map, option_and_then, IfOk};
+ghost use Rattle.serde_json.specs.Find.{as_str};
 ghost use Rattle.serde_json.specs.View.{view};
 ghost use Rattle.session_meaning.specs.SessionText as text;
 ghost use Rattle.session_file.specs.Texts.{key_text_of, grant_text_of, head_then, function_text_of, request_text_of, session_text_of};
 
-use crate::lists::{call_list, function_list, grant_list, key_list, request_list};
+use crate::lists::{Item, items_at, items_or_none};
 use crate::members::{has_only, mode_at, number_at, number_or, text_at, text_or_empty};
 use faaslet_meaning::Mode;
 use serde_json::Value;
@@ -18,7 +19,7 @@ pub(crate) struct KeyText<'v> {
     pub init: &'v str,
 }
 
-pub(crate) fn key_text(value: &Value) -> Option<KeyText<'_>>
+fn key_text(value: &Value) -> Option<KeyText<'_>>
     ensures { option_map key_text_of result ≡ text.key_text (view value.now) }
 {
     if !has_only(value, &["name", "size", "init"]) {
@@ -30,13 +31,25 @@ pub(crate) fn key_text(value: &Value) -> Option<KeyText<'_>>
     Some(KeyText { name, size, init })
 }
 
+impl<'v> Item<'v> for KeyText<'v> {
+    ghost Text = { text.KeyText };
+
+    ghost text_of = { key_text_of };
+
+    ghost read_of = { text.key_text };
+
+    fn read(_alloc: Global, value: &'v Value) -> Result<Option<KeyText<'v>>, AllocError> {
+        Ok(key_text(value))
+    }
+}
+
 #[derive(Drop)]
 pub(crate) struct GrantText<'v> {
     pub key: &'v str,
     pub mode: Mode,
 }
 
-pub(crate) fn grant_text(value: &Value) -> Option<GrantText<'_>>
+fn grant_text(value: &Value) -> Option<GrantText<'_>>
     ensures { option_map grant_text_of result ≡ text.grant_text (view value.now) }
 {
     if !has_only(value, &["key", "mode"]) {
@@ -45,6 +58,31 @@ pub(crate) fn grant_text(value: &Value) -> Option<GrantText<'_>>
     let key = text_at(value, "key")?;
     let mode = mode_at(value, "mode")?;
     Some(GrantText { key, mode })
+}
+
+impl<'v> Item<'v> for GrantText<'v> {
+    ghost Text = { text.GrantText };
+
+    ghost text_of = { grant_text_of };
+
+    ghost read_of = { text.grant_text };
+
+    fn read(_alloc: Global, value: &'v Value) -> Result<Option<GrantText<'v>>, AllocError> {
+        Ok(grant_text(value))
+    }
+}
+
+// The name of a function that may be called.
+impl<'v> Item<'v> for &'v str {
+    ghost Text = { List ℕ };
+
+    ghost text_of = { λ s. s.now };
+
+    ghost read_of = { as_str };
+
+    fn read(_alloc: Global, value: &'v Value) -> Result<Option<&'v str>, AllocError> {
+        Ok(value.as_str())
+    }
 }
 
 /// A function but for its lists.
@@ -89,19 +127,16 @@ pub(crate) struct FunctionText<'v> {
     pub calls: Vec<&'v str>,
 }
 
-pub(crate) fn function_text(
-    alloc: Global,
-    value: &Value,
-) -> Result<Option<FunctionText<'_>>, AllocError>
+fn function_text(alloc: Global, value: &Value) -> Result<Option<FunctionText<'_>>, AllocError>
     ensures { IfOk result (λ o. option_map function_text_of o ≡ text.function_text (view value.now)) }
 {
     let Some(head) = function_head(value) else {
         return Ok(None);
     };
-    let Some(grants) = grant_list(alloc, value)? else {
+    let Some(grants) = items_or_none(alloc, value, "grants")? else {
         return Ok(None);
     };
-    let Some(calls) = call_list(alloc, value)? else {
+    let Some(calls) = items_or_none(alloc, value, "calls")? else {
         return Ok(None);
     };
     Ok(Some(FunctionText {
@@ -109,6 +144,18 @@ pub(crate) fn function_text(
         grants,
         calls,
     }))
+}
+
+impl<'v> Item<'v> for FunctionText<'v> {
+    ghost Text = { text.FunctionText };
+
+    ghost text_of = { function_text_of };
+
+    ghost read_of = { text.function_text };
+
+    fn read(alloc: Global, value: &'v Value) -> Result<Option<FunctionText<'v>>, AllocError> {
+        function_text(alloc, value)
+    }
 }
 
 #[derive(Drop)]
@@ -119,7 +166,7 @@ pub(crate) struct RequestText<'v> {
     pub input: &'v str,
 }
 
-pub(crate) fn request_text(value: &Value) -> Option<RequestText<'_>>
+fn request_text(value: &Value) -> Option<RequestText<'_>>
     ensures { option_map request_text_of result ≡ text.request_text (view value.now) }
 {
     if !has_only(value, &["label", "function", "host", "input"]) {
@@ -135,6 +182,18 @@ pub(crate) fn request_text(value: &Value) -> Option<RequestText<'_>>
         host,
         input,
     })
+}
+
+impl<'v> Item<'v> for RequestText<'v> {
+    ghost Text = { text.RequestText };
+
+    ghost text_of = { request_text_of };
+
+    ghost read_of = { text.request_text };
+
+    fn read(_alloc: Global, value: &'v Value) -> Result<Option<RequestText<'v>>, AllocError> {
+        Ok(request_text(value))
+    }
 }
 
 #[derive(Drop)]
@@ -165,13 +224,13 @@ pub(crate) fn session_text(
     let Some(workers) = number_at(value, "workers") else {
         return Ok(None);
     };
-    let Some(keys) = key_list(alloc, value)? else {
+    let Some(keys) = items_at(alloc, value, "keys")? else {
         return Ok(None);
     };
-    let Some(functions) = function_list(alloc, value)? else {
+    let Some(functions) = items_at(alloc, value, "functions")? else {
         return Ok(None);
     };
-    let Some(requests) = request_list(alloc, value)? else {
+    let Some(requests) = items_at(alloc, value, "requests")? else {
         return Ok(None);
     };
     Ok(Some(SessionText {

@@ -1,150 +1,72 @@
 //! The lists of a session file: each item has its shape, or there is no list.
 
-ghost use Rattle.std.specs.Prelude.{◌≡◌, codes, map, option_map, IfOk};
-ghost use Rattle.serde_json.specs.Find.{as_str};
+ghost use Rattle.std.specs.Prelude.{◌≡◌, Option, map, option_map, IfOk};
+ghost use Rattle.serde_json.specs.Data.{Data};
 ghost use Rattle.serde_json.specs.View.{view, items_view};
 ghost use Rattle.session_meaning.specs.SessionText as text;
-ghost use Rattle.session_file.specs.Texts.{key_text_of, grant_text_of, function_text_of, request_text_of};
 
-use crate::entries::{
-    FunctionText, GrantText, KeyText, RequestText, function_text, grant_text, key_text,
-    request_text,
-};
 use crate::members::{list_at, list_or_empty};
 use serde_json::Value;
 use std::alloc::{AllocError, Global};
 
-fn key_texts(alloc: Global, values: &[Value]) -> Result<Option<Vec<KeyText<'_>>>, AllocError>
-    ensures { IfOk result (λ o. option_map (λ v. map key_text_of v.items) o
-        ≡ text.all_items text.key_text (items_view values.now)) }
+/// An item of a list as it stands in the file, borrowed from its tree.
+pub(crate) trait Item<'v>: Drop {
+    // What it stands for.
+    ghost Text: { Type 0 };
+
+    ghost text_of: { Self → Self.Text };
+
+    // How its definition reads a value.
+    ghost read_of: { Data → Option Self.Text };
+
+    /// The item that this value is, if it has its shape.
+    fn read(alloc: Global, value: &'v Value) -> Result<Option<Self>, AllocError>
+        ensures { IfOk result (λ o. option_map Self.text_of o ≡ Self.read_of (view value.now)) };
+}
+
+fn read_items<'v, T: Item<'v>>(
+    alloc: Global,
+    values: &'v [Value],
+) -> Result<Option<Vec<T>>, AllocError>
+    ensures { IfOk result (λ o. option_map (λ v. map T.text_of v.items) o
+        ≡ text.all_items T.read_of (items_view values.now)) }
 {
-    let mut texts = Vec::new(alloc);
+    let mut items = Vec::new(alloc);
     for value in values {
-        match key_text(value) {
-            Some(text) => texts.push(text)?,
+        match T::read(alloc, value)? {
+            Some(item) => items.push(item)?,
             None => return Ok(None),
         }
     }
-    Ok(Some(texts))
+    Ok(Some(items))
 }
 
-pub(crate) fn key_list(alloc: Global, value: &Value) -> Result<Option<Vec<KeyText<'_>>>, AllocError>
-    ensures { IfOk result (λ o. option_map (λ v. map key_text_of v.items) o
-        ≡ text.needed_list text.key_text (codes "keys") (view value.now)) }
+/// The items of a member that must be there.
+pub(crate) fn items_at<'v, T: Item<'v>>(
+    alloc: Global,
+    value: &'v Value,
+    name: &str,
+) -> Result<Option<Vec<T>>, AllocError>
+    ensures { IfOk result (λ o. option_map (λ v. map T.text_of v.items) o
+        ≡ text.needed_list T.read_of name.now (view value.now)) }
 {
-    match list_at(value, "keys") {
-        Some(values) => key_texts(alloc, values),
+    match list_at(value, name) {
+        Some(values) => read_items(alloc, values),
         None => Ok(None),
     }
 }
 
-fn grant_texts(alloc: Global, values: &[Value]) -> Result<Option<Vec<GrantText<'_>>>, AllocError>
-    ensures { IfOk result (λ o. option_map (λ v. map grant_text_of v.items) o
-        ≡ text.all_items text.grant_text (items_view values.now)) }
-{
-    let mut texts = Vec::new(alloc);
-    for value in values {
-        match grant_text(value) {
-            Some(text) => texts.push(text)?,
-            None => return Ok(None),
-        }
-    }
-    Ok(Some(texts))
-}
-
-pub(crate) fn grant_list(
+/// The items of a member that may be left out.
+pub(crate) fn items_or_none<'v, T: Item<'v>>(
     alloc: Global,
-    value: &Value,
-) -> Result<Option<Vec<GrantText<'_>>>, AllocError>
-    ensures { IfOk result (λ o. option_map (λ v. map grant_text_of v.items) o
-        ≡ text.given_list text.grant_text (codes "grants") (view value.now)) }
+    value: &'v Value,
+    name: &str,
+) -> Result<Option<Vec<T>>, AllocError>
+    ensures { IfOk result (λ o. option_map (λ v. map T.text_of v.items) o
+        ≡ text.given_list T.read_of name.now (view value.now)) }
 {
-    match list_or_empty(value, "grants") {
-        Some(values) => grant_texts(alloc, values),
-        None => Ok(None),
-    }
-}
-
-fn call_texts(alloc: Global, values: &[Value]) -> Result<Option<Vec<&str>>, AllocError>
-    ensures { IfOk result (λ o. option_map (λ v. map (λ s. s.now) v.items) o
-        ≡ text.all_items as_str (items_view values.now)) }
-{
-    let mut texts = Vec::new(alloc);
-    for value in values {
-        match value.as_str() {
-            Some(text) => texts.push(text)?,
-            None => return Ok(None),
-        }
-    }
-    Ok(Some(texts))
-}
-
-pub(crate) fn call_list(alloc: Global, value: &Value) -> Result<Option<Vec<&str>>, AllocError>
-    ensures { IfOk result (λ o. option_map (λ v. map (λ s. s.now) v.items) o
-        ≡ text.given_list as_str (codes "calls") (view value.now)) }
-{
-    match list_or_empty(value, "calls") {
-        Some(values) => call_texts(alloc, values),
-        None => Ok(None),
-    }
-}
-
-fn function_texts(
-    alloc: Global,
-    values: &[Value],
-) -> Result<Option<Vec<FunctionText<'_>>>, AllocError>
-    ensures { IfOk result (λ o. option_map (λ v. map function_text_of v.items) o
-        ≡ text.all_items text.function_text (items_view values.now)) }
-{
-    let mut texts = Vec::new(alloc);
-    for value in values {
-        match function_text(alloc, value)? {
-            Some(text) => texts.push(text)?,
-            None => return Ok(None),
-        }
-    }
-    Ok(Some(texts))
-}
-
-pub(crate) fn function_list(
-    alloc: Global,
-    value: &Value,
-) -> Result<Option<Vec<FunctionText<'_>>>, AllocError>
-    ensures { IfOk result (λ o. option_map (λ v. map function_text_of v.items) o
-        ≡ text.needed_list text.function_text (codes "functions") (view value.now)) }
-{
-    match list_at(value, "functions") {
-        Some(values) => function_texts(alloc, values),
-        None => Ok(None),
-    }
-}
-
-fn request_texts(
-    alloc: Global,
-    values: &[Value],
-) -> Result<Option<Vec<RequestText<'_>>>, AllocError>
-    ensures { IfOk result (λ o. option_map (λ v. map request_text_of v.items) o
-        ≡ text.all_items text.request_text (items_view values.now)) }
-{
-    let mut texts = Vec::new(alloc);
-    for value in values {
-        match request_text(value) {
-            Some(text) => texts.push(text)?,
-            None => return Ok(None),
-        }
-    }
-    Ok(Some(texts))
-}
-
-pub(crate) fn request_list(
-    alloc: Global,
-    value: &Value,
-) -> Result<Option<Vec<RequestText<'_>>>, AllocError>
-    ensures { IfOk result (λ o. option_map (λ v. map request_text_of v.items) o
-        ≡ text.needed_list text.request_text (codes "requests") (view value.now)) }
-{
-    match list_at(value, "requests") {
-        Some(values) => request_texts(alloc, values),
+    match list_or_empty(value, name) {
+        Some(values) => read_items(alloc, values),
         None => Ok(None),
     }
 }
