@@ -9,6 +9,7 @@ pub mod Held
 pub mod Hosts
 pub mod Index
 pub mod Loaded
+pub mod Reserved
 pub mod Look
 pub mod Mine
 pub mod Orders

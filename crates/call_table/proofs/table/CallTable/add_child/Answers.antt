@@ -7,8 +7,9 @@ use Rattle.call_table.specs.SessionInside.{Indexed}
 use Rattle.call_table.specs.Parent.{IsParent}
 use Rattle.faaslet_meaning.specs.Records.{takes}
 use Rattle.call_table.specs.Loads.{LoadsFit}
-use Rattle.call_table.proofs.Loaded.{loads_child, loads_more, queue_few, takes_within}
+use Rattle.call_table.proofs.Loaded.{loads_child, takes_within}
 use Rattle.call_table.proofs.Index.{small, child_so}
+use Rattle.call_table.proofs.Reserved.{kept, kept_as, few_queued, taken_few}
 use Rattle.call_table.proofs.table.CallTable.add_child.Goals as goal
 
 pub add_child-requires : goal.add_child-requires
@@ -38,41 +39,14 @@ invariant_of-self-2 c =
     }
 
 pub overflow_sub-call : goal.overflow_sub-call
-overflow_sub-call c =
-    let t = c.self.inside.store in
-    let a = takes_within t.records in
-    let b = c.self.invariant.indexed.progress_fits.taken_so in
-    let d = c.calls-call.ensures in
-    omega arith
+overflow_sub-call c = let few = taken_few c.self.inside c.self.invariant in let all = c.calls-call.ensures in omega arith
 
 pub add-requires : goal.add-requires
-add-requires c =
-    let t = c.self.inside.store in
-    let l = c.self.inside.loads in
-    let k = c.reserve.new.self in
-    let fit = loads_more t.hosts t.records l k c.self.invariant.loads c.reserve.ensures.queued c.reserve.ensures.warm c.reserve.ensures.more in
-    let a = queue_few t.hosts c.place-placed.result t.records k fit in
-    let n = c.self.invariant.indexed.few in
-    record { few = omega arith }
+add-requires c = record { few = few_queued c.self.inside c.reserve.new.self c.place-placed.result c.self.invariant (record { queued = c.reserve.ensures.queued; warm = c.reserve.ensures.warm; more = c.reserve.ensures.more }) }
 
 pub invariant_of-self : goal.invariant_of-self
-invariant_of-self c =
-    let t = c.self.inside.store in
-    record {
-      requests = c.self.invariant.requests;
-      indexed = c.self.invariant.indexed;
-      loads = loads_more t.hosts t.records c.self.inside.loads c.reserve.new.self c.self.invariant.loads c.reserve.ensures.queued c.reserve.ensures.warm c.reserve.ensures.more;
-      hosts = c.self.invariant.hosts;
-    }
+invariant_of-self c = kept c.self.inside c.reserve.new.self c.self.invariant (record { queued = c.reserve.ensures.queued; warm = c.reserve.ensures.warm; more = c.reserve.ensures.more })
 
 pub invariant_of-self-in_err-push_child : goal.invariant_of-self-in_err-push_child
 invariant_of-self-in_err-push_child c =
-    let t = c.self.inside.store in
-    let same = sym c.in_err-push_child.ensures.want in
-    record {
-      requests = c.self.invariant.requests;
-      indexed = subst (λ (u : Table). Indexed u.records c.self.inside.progress c.self.inside.heads) same c.self.invariant.indexed;
-      loads = subst (λ (u : Table). LoadsFit u.hosts u.records c.reserve.new.self) same
-          (loads_more t.hosts t.records c.self.inside.loads c.reserve.new.self c.self.invariant.loads c.reserve.ensures.queued c.reserve.ensures.warm c.reserve.ensures.more);
-      hosts = subst (λ (u : Table). length c.self.inside.heads.at.items ≡ u.hosts) same c.self.invariant.hosts;
-    }
+    kept_as c.self.inside c.reserve.new.self _ c.self.invariant (record { queued = c.reserve.ensures.queued; warm = c.reserve.ensures.warm; more = c.reserve.ensures.more }) c.in_err-push_child.ensures.want
