@@ -20,3 +20,20 @@ pub fn append_alone<R: Wait>(rt: &R, alloc: Global, bytes: &[u8]) -> Option<(Rep
     };
     Some((reply, region))
 }
+
+/// A tier with one replica and one maker, which takes a turn, looks, and gives it back. Whether the replica is present in
+/// the turn, and the replica at the end. `None` is for want of memory.
+pub fn look_alone<R: Wait>(rt: &R, alloc: Global) -> Option<(bool, Region)> {
+    let Ok((tier, mut passes)) = Tier::local(alloc, &[4], 1) else {
+        return None;
+    };
+    let own = &mut passes[0];
+    let held = tier.take(rt, own, 0);
+    let present = held.value().present();
+    tier.give_back(own, 0, held);
+    let mut ends = tier.close(passes);
+    let Some((region, _list)) = ends.pop() else {
+        unreachable!()
+    };
+    Some((present, region))
+}

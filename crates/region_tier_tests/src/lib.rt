@@ -5,7 +5,7 @@ mod alone;
 mod makers;
 mod told;
 
-pub use alone::append_alone;
+pub use alone::{append_alone, look_alone};
 pub use makers::two_makers;
 pub use told::{Told, write_read_tell};
 

@@ -15,6 +15,13 @@ fn one_maker_appends(rt: HostRuntime) {
 }
 
 #[test]
+fn one_maker_looks(rt: HostRuntime) {
+    let found = look_alone(&rt, rt.alloc());
+    let right = found.map(|(present, region)| !present && region.size() == 4 && region.used() == 0);
+    assert!(rt; right == Some(true));
+}
+
+#[test]
 fn the_first_maker_is_told_what_the_second_read(rt: HostRuntime) {
     let Some(Told { tier, passes, read }) = write_read_tell(&rt, rt.alloc()) else {
         panic!(rt; "no memory");
