@@ -217,7 +217,7 @@ def wide_calls():
 
 
 def host():
-    """`input_size` over and over. `call` answers `not built` for it, so only `--write` makes it."""
+    """`input_size` over and over. Only `--write` makes it: it was not timed by `call` yet."""
     name = lambda text: u(len(text)) + text  # noqa: E731
     kind = b"\x60" + vec([]) + vec([I32])
     return b"".join(
