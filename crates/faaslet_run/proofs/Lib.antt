@@ -1,9 +1,12 @@
 pub mod Arguments
+pub mod Granted
 pub mod Stepping
-pub mod Privacy
 pub mod Counting
+pub mod Releasing
 pub mod Serving
-pub mod Placing
 pub mod Standing
+pub mod Telling
+pub mod Placing
+pub mod Ending
 pub mod Beginning
 pub mod Replying

@@ -1,18 +1,20 @@
--- The steps of a machine, from where it is to run on, are steps of its call. A host call at which they stop was paid for.
-use Rattle.std.proofs.Common.{◌≡◌, ℕ, zero, suc, ◌<◌, ◌≤◌, List, [], ◌++◌, length, refl, sym, ap, ◌∙◌, subst, arith, Option, Some, None}
+-- The steps of a machine, from where it is to run on, are steps of its call. A host call at which they stop was paid for, and they
+-- leave what is mapped.
+use Rattle.std.proofs.Common.{◌≡◌, ℕ, zero, suc, ◌<◌, ◌≤◌, List, [], refl, sym, subst, arith, Option, Some, None}
 use Rattle.std.proofs.lemmas.List.{append-nil}
-use Rattle.faaslet_meaning.specs.declared.outcome.Outcome.{Outcome}
 use Rattle.faaslet_meaning.specs.LoadStore.{load_size}
 use Rattle.faaslet_meaning.specs.Memory.{reading, writing}
 use Rattle.faaslet_meaning.specs.HostCalls.{HostCall, Buffer, buffer_of}
 use Rattle.faaslet_meaning.specs.Configuration.{Program, Configuration, Begun, Next, goes, ends, touches, calls, stuck}
 use Rattle.faaslet_meaning.specs.CallState.{Invocation, State, Progress, running, runs}
 use Rattle.faaslet_meaning.specs.Channels.{Transcript}
-use Rattle.faaslet_meaning.specs.Call.{settled, progress, call_step, serve}
+use Rattle.faaslet_meaning.specs.Call.{settled, progress}
 use Rattle.faaslet_meaning.specs.Goes.{Goes, here, stepped}
+use Rattle.faaslet_meaning.specs.Formed.{IsTied}
 use Rattle.faaslet_meaning.specs.Fresh.{steps, then_go}
 use Rattle.faaslet_meaning.specs.Step.{step}
 use Rattle.faaslet_meaning.proofs.StepWalk.{View, Good, Rules, IsShort, load_holds, store_holds, steps_hold}
+use Rattle.faaslet_meaning.proofs.CallMemory.{NextFits, step_fits}
 use Rattle.faaslet_meaning.proofs.Ways.{joined}
 use Rattle.host_calls.specs.CallHosts.{HasShort}
 use Rattle.host_calls.specs.CallHosts as hosts
@@ -61,7 +63,7 @@ pub runs_go : (j : Invocation) (s : State) (from next : Next) → IsPlain from �
 runs_go j s (goes c) next plain comes h =
     subst (Goes j (runs (run_at s c)) []) (same_at j s c s.config next h) (steps_go j s comes.count c next comes.by h)
 runs_go j s (ends c o) next plain comes h = subst (λ (n : Next). Goes j (settled j s (ends c o)) [] (progress j (run_at s s.config) n)) comes.by here
-runs_go j s (touches c b) next plain comes h = absurd plain
+runs_go j s (touches c b) next plain comes h = subst (λ (n : Next). Goes j (settled j s (touches c b)) [] (progress j (run_at s s.config) n)) comes.by here
 runs_go j s (calls c b) next plain comes h = absurd plain
 runs_go j s stuck next plain comes h = absurd plain
 
@@ -108,3 +110,20 @@ pub stops_paid : (p : Program) (k : ℕ) (c d : Configuration) (h : HostCall) �
 stops_paid p k c d h e =
     let r : (d.fuel < c.fuel) × IsShort (buffer_of h) = subst (Good (Kept c.fuel) (Kept c.fuel) (Touched c.fuel) (Called c.fuel)) e (steps_paid c.fuel p k c (omega arith)) in
     (r.0, short_is h r.1)
+
+-- ---- What is mapped.
+
+steps_fit : (ms : List (ℕ × ℕ)) (p : Program) (k : ℕ) (c : Configuration) → IsTied c.memory.segments ms → NextFits ms (steps p k c)
+steps_fit ms p zero c h = h
+steps_fit ms p (suc k) c h = by (step p c) (step_fits ms p c h) (λ d f. steps_fit ms p k d f)
+  where
+    by : (x : Next) → NextFits ms x → ((d : Configuration) → IsTied d.memory.segments ms → NextFits ms (steps p k d)) → NextFits ms (then_go x (steps p k))
+    by (goes d) f go = go d f
+    by (ends d o) f go = f
+    by (touches d b) f go = f
+    by (calls d i) f go = f
+    by stuck f go = f
+
+-- at a host call it is as it was
+pub steps_tied : (ms : List (ℕ × ℕ)) (p : Program) (k : ℕ) (c d : Configuration) (h : HostCall) → IsTied c.memory.segments ms → steps p k c ≡ calls d h → IsTied d.memory.segments ms
+steps_tied ms p k c d h t e = let f = subst (NextFits ms) e (steps_fit ms p k c t) in f.0

@@ -1,4 +1,5 @@
 pub mod Counted
+pub mod Allowed
 pub mod Begun
 pub mod Places
 pub mod Hosts

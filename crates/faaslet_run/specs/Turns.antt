@@ -6,22 +6,22 @@ use Rattle.faaslet_meaning.specs.Asks.{question_of_ask}
 use Rattle.faaslet_meaning.specs.CallState.{Invocation, State, Progress, runs, asks, over, lost}
 use Rattle.faaslet_meaning.specs.Channels.{Question, Transcript}
 use Rattle.wasm_interp.specs.declared.machine.Room.{Room}
-use Rattle.faaslet_run.specs.Places.{StandsAt}
+use Rattle.faaslet_run.specs.Places.{IsAsking, StandsAt}
 use Rattle.faaslet_run.specs.declared.faaslet.Faaslet.{Faaslet}
 use Rattle.faaslet_run.specs.declared.faaslet.Stage.{Stage}
 use Rattle.faaslet_run.specs.declared.faaslet.Stage.TheVariants as stages
 use Rattle.faaslet_run.specs.declared.faaslet.Turn.{Turn}
 use Rattle.faaslet_run.specs.declared.faaslet.Turn.TheVariants as turns
 
--- the question is this one, with its bytes in the scratch
+-- the question is this one, with these bytes; where the machine is to run on first, they come by that
 abbrev pub IsAskedAt : Stage → List ℕ → Invocation → Question → Type 0
-IsAskedAt stages.Runs scratch j q = ⊥
-IsAskedAt (stages.Asks call a) scratch j q = question_of_ask j a scratch ≡ Some q
+IsAskedAt stages.Runs scratch j q = Unit {0}
+IsAskedAt (stages.Asks work a) scratch j q = question_of_ask j a scratch ≡ Some q
 IsAskedAt (stages.Over o) scratch j q = ⊥
 
--- where the call is at a question that wasn't told yet, its bytes are in the scratch
+-- where the call is at a question that wasn't told yet, its bytes are in the machine's scratch
 abbrev pub IsReady : Faaslet → Invocation → Progress → Type 0
-IsReady f j (asks s q) = IsAskedAt f.stage f.scratch j q
+IsReady f j (asks s q) = IsAskedAt f.stage f.machine.scratch j q
 IsReady f j (runs s) = Unit {0}
 IsReady f j (over s o) = Unit {0}
 IsReady f j lost = Unit {0}
@@ -37,6 +37,7 @@ pub record AsksThis (f : Faaslet) (j : Invocation) (start : State) (transcript :
   pub state : State
   pub question : Question
   pub at : StandsAt f j start transcript (asks state question)
+  pub waits : IsAsking f.stage
   pub is : question_of_ask j a f.scratch ≡ Some question
 
 -- the call is over, with this outcome
@@ -52,13 +53,13 @@ Tells (turns.Ended o) f j start transcript = EndsThus f j start transcript o
 -- what is told at a stage
 abbrev pub turn_of : Stage → Option Turn
 turn_of stages.Runs = None
-turn_of (stages.Asks call a) = Some (turns.Asks a)
+turn_of (stages.Asks work a) = Some (turns.Asks a)
 turn_of (stages.Over o) = Some (turns.Ended o)
 
 -- how often it may be run on, where it is to run on: each time it spends fuel
 abbrev pub left_at : Stage → ℕ → ℕ
 left_at stages.Runs fuel = fuel + 1
-left_at (stages.Asks call a) fuel = 0
+left_at (stages.Asks work a) fuel = 0
 left_at (stages.Over o) fuel = 0
 
 abbrev pub runs_left : Faaslet → ℕ

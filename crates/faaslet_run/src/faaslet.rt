@@ -8,22 +8,24 @@ ghost use Rattle.faaslet_meaning.specs.CallState.{Invocation, State, Progress, r
 ghost use Rattle.faaslet_meaning.specs.Channels.{Question, Reply as Answer, Transcript};
 ghost use Rattle.faaslet_meaning.specs.Configuration.{Configuration};
 ghost use Rattle.faaslet_meaning.specs.Fresh.{Function, entry, makes};
-ghost use Rattle.faaslet_meaning.specs.Memory.{IsMemory, page_limit};
+ghost use Rattle.faaslet_meaning.specs.Memory.{IsMemory, grant_limit, page_limit};
 ghost use Rattle.faaslet_meaning.specs.Runs.{invocation};
 ghost use Rattle.proto_faaslet.specs.Entries.{HasRoom, IsFor};
 ghost use Rattle.proto_faaslet.specs.Snapshots.{stored};
+ghost use Rattle.faaslet_run.specs.Allowed.{AreGrants};
 ghost use Rattle.faaslet_run.specs.Begun.{IsBegun};
 ghost use Rattle.faaslet_run.specs.Counted.{counted};
 ghost use Rattle.faaslet_run.specs.Lending.{LendsInput, LendsScratch};
-ghost use Rattle.faaslet_run.specs.Places.{StandsAt, state_of};
+ghost use Rattle.faaslet_run.specs.Places.{IsAsking, StandsAt, state_of};
 ghost use Rattle.faaslet_run.specs.Turns.{GoesOn, HasRooms, IsReady, SameRoom, Tells, runs_left, turn_of};
 
 use crate::buffer::Buffer;
+use crate::grants::writable;
 use crate::output::Output;
 use crate::tally::Tally;
 use call_table::Job;
-use faaslet_meaning::{Ask, Grants, Linear, Outcome, Reply};
-use host_calls::{CallCall, CallKnown};
+use faaslet_meaning::{Ask, Grant, Grants, Linear, Outcome, Reply};
+use host_calls::{CallCall, CallKnown, Known, StateCall};
 use proto_faaslet::{Proto, empty_memory};
 use region_map::SegmentedMemory;
 use std::alloc::{AllocError, Global};
@@ -39,13 +41,30 @@ pub struct Called<'s> {
     pub(crate) room: u32,
 }
 
+/// What stands at a question.
+#[derive(Clone, Copy)]
+pub enum Work {
+    /// A host call on calls.
+    Call(CallCall),
+    /// A host call on state.
+    State(StateCall),
+    /// A load or a store, at a shared piece.
+    Piece,
+    /// The release of the lock on the key at a place, of its replica or of its global value, after `main` has ended so.
+    Release {
+        place: u32,
+        local: bool,
+        outcome: Outcome,
+    },
+}
+
 /// Where a call is.
 #[derive(Clone, Copy)]
 pub enum Stage {
     /// Its machine is to run on.
     Runs,
-    /// A host call stands at this question.
-    Asks(CallCall, Ask),
+    /// This stands at a question.
+    Asks(Work, Ask),
     Over(Outcome),
 }
 
@@ -61,12 +80,36 @@ pub enum Turn {
 pub struct Faaslet<'s> {
     pub(crate) machine: Machine<'s, SegmentedMemory<'s>>,
     pub(crate) known: CallKnown,
+    pub(crate) keys: Known,
     pub(crate) input: Buffer,
     pub(crate) scratch: Buffer,
     pub(crate) output: Output,
     pub(crate) counts: Tally,
     pub(crate) called: Option<Called<'s>>,
     pub(crate) stage: Stage,
+}
+
+// These bytes in place of others.
+fn copy_all(to: &mut [u8], from: &[u8])
+    requires { length to.old ≡ length from.now }
+    ensures { to.new ≡ from.now }
+{
+    to.copy_from_slice(from);
+}
+
+// The bytes of a machine's scratch come to a buffer.
+fn take_scratch<'s>(scratch: &mut Buffer, machine: &mut Machine<'s, SegmentedMemory<'s>>)
+    ensures scratch { scratch.new ≡ machine.old.scratch }
+    ensures machine { machine.new ≡ machine.old }
+{
+    copy_all(scratch.as_mut_slice(), machine.scratch_mut());
+}
+
+// The bytes of a buffer come to a machine's scratch.
+fn give_scratch<'s>(scratch: &Buffer, machine: &mut Machine<'s, SegmentedMemory<'s>>)
+    ensures { machine.new ≡ record machine.old { scratch = scratch.now } }
+{
+    copy_all(machine.scratch_mut(), scratch.as_slice());
 }
 
 // Changes nothing, and tells that the memory keeps to what every memory does.
@@ -93,6 +136,7 @@ impl<'s> Faaslet<'s> {
             Ok(machine) => Ok(Faaslet {
                 machine,
                 known,
+                keys: Known::new(),
                 input,
                 scratch,
                 output,
@@ -122,41 +166,43 @@ impl<'s> Faaslet<'s> {
         self.scratch.as_mut_slice()
     }
 
-    // Makes the machine as the snapshot has it, where nothing that is mapped may be written.
-    fn restore(&mut self, proto: &'s Proto<'s>, fuel: u64)
+    // Makes the machine as the snapshot has it, where what is mapped may be written as these grants say.
+    fn restore(&mut self, proto: &'s Proto<'s>, grants: &[Grant], fuel: u64)
         requires room { HasRoom self.old.machine proto.now.code }
         requires pages { proto.now.quota ≤ self.old.machine.memory.room }
+        requires few { length grants.now ≤ grant_limit }
         ensures only { self.new ≡ record self.old { machine = self.new.machine } }
-        ensures stands { IsBegun self.new.machine proto.now fuel }
+        ensures stands { IsBegun self.new.machine proto.now grants.now fuel }
         ensures rooms { SameRoom self.old self.new }
     {
-        self.machine.allow(0);
+        self.machine.allow(writable(grants));
         proto.restore(&mut self.machine, fuel);
         sound(&mut self.machine);
     }
 
-    /// Begins a call of the snapshot's function, in place of the call before. Its input is the first bytes of `input_mut`.
+    /// Begins a call of the snapshot's function, in place of the call before. Its input is the first bytes of `input_mut`. It may
+    /// have at most 32 grants, of different keys, each of 1 to 16,777,216 bytes.
     pub fn start(&mut self, proto: &'s Proto<'s>, grants: &'s Grants, callees: &'s [u32], job: Job)
         requires room { HasRoom self.old.machine proto.now.code }
         requires pages { proto.now.quota ≤ self.old.machine.memory.room }
         requires input { job.len ≤ 65536 }
         requires output { job.room ≤ 65536 }
         requires callees { length callees.now ≤ 256 }
-
-        // Until the host calls on state are here.
-        requires no_grants { grants.now ≡ [] }
+        requires grants { AreGrants grants.now }
         ensures started { (f : Function) (c : Configuration) → IsFor f proto.now.code proto.now.quota job.fuel
             → f.grants ≡ grants.now → f.callees ≡ callees.now → f.room ≡ job.room
             → entry f (stored proto.now) (Some proto.now.main) ≡ makes c
             → StandsAt self.new (invocation f (take job.len self.old.input)) (fresh_state c) [] (runs (fresh_state c)) }
         ensures rooms { SameRoom self.old self.new }
     {
-        self.restore(proto, job.fuel);
+        let list = grants.as_slice();
+        self.restore(proto, list, job.fuel);
         // It tells that there are 65,536 bytes.
         let _input = self.input.as_slice();
         self.known.clear();
+        self.keys.clear();
         self.output.clear();
-        self.counts.restart();
+        self.counts.restart(2 * list.len() + 1);
         self.called = Some(Called {
             grants,
             callees,
@@ -183,7 +229,7 @@ impl<'s> Faaslet<'s> {
         }
     }
 
-    // Runs to the next host call, and does what it does before its first question, or to the end.
+    // Runs to the next shared piece, to the next host call, and does what this does before its first question, or to the end.
     fn run_on(&mut self)
         requires runs { self.old.stage ≡ Stage.Runs }
         requires at { (j : Invocation) × (start : State) × (transcript : Transcript) × (p : Progress) × StandsAt self.old j start transcript p }
@@ -193,10 +239,9 @@ impl<'s> Faaslet<'s> {
         ensures rooms { SameRoom self.old self.new }
     {
         match self.machine.run() {
-            Event::Ended(outcome) => self.stage = Stage::Over(outcome),
+            Event::Ended(outcome) => self.end(outcome),
             Event::Host(ask) => self.serve(ask),
-            // Without grants all memory is private.
-            Event::Piece(_) => unreachable!(),
+            Event::Piece(piece) => self.stop_at(piece),
         }
     }
 
@@ -210,24 +255,26 @@ impl<'s> Faaslet<'s> {
         'turns: while self.runs() {
             self.run_on();
         }
+        take_scratch(&mut self.scratch, &mut self.machine);
         self.told()
     }
 
     /// Goes on after the reply to the question that `next` told. The bytes of the reply are the first of the scratch.
     pub fn answer(&mut self, reply: Reply)
-        requires { (j : Invocation) × (start : State) × (transcript : Transcript) × (s : State) × (q : Question) × (r : Answer)
+        requires waits { IsAsking self.old.stage }
+        requires at { (j : Invocation) × (start : State) × (transcript : Transcript) × (s : State) × (q : Question) × (r : Answer)
             × StandsAt self.old j start transcript (asks s q) × RepliesAs q reply self.old.scratch r × IsTrue (fits s q r) }
         ensures answered { (j : Invocation) (start : State) (transcript : Transcript) (s : State) (q : Question) (r : Answer)
             → StandsAt self.old j start transcript (asks s q) → RepliesAs q reply self.old.scratch r → IsTrue (fits s q r)
             → StandsAt self.new j start (transcript ++ (q, r) ∷ []) (replied j s r) × IsReady self.new j (replied j s r) }
         ensures rooms { SameRoom self.old self.new }
     {
-        let Stage::Asks(call, ask) = self.stage else {
+        let Stage::Asks(work, ask) = self.stage else {
             unreachable!()
         };
-        self.give_scratch();
+        give_scratch(&self.scratch, &mut self.machine);
         self.count(ask, reply);
-        self.after(call, reply);
+        self.after(work, reply);
     }
 
     /// The output so far.

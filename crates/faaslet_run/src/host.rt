@@ -1,23 +1,22 @@
-//! The host calls of a call: each up to its next question, or to its end.
+//! The host calls on calls: each up to its next question, or to its end. What all host calls have in common.
 
-ghost use Rattle.std.specs.Prelude.{◌≡◌, ◌≢◌, ℕ, ◌+◌, ◌<◌, ◌≤◌, ◌^◌, ◌++◌, ◌∷◌, [], None, Some, IfErr, IfOk, if◌then◌else◌, length, min, slice_index, take};
+ghost use Rattle.std.specs.Prelude.{◌≡◌, ◌≢◌, ℕ, ◌+◌, ◌<◌, ◌≤◌, ◌^◌, ◌++◌, None, Some, IfErr, IfOk, length, take};
 ghost use Rattle.faaslet_meaning.specs.Call.{replied};
 ghost use Rattle.faaslet_meaning.specs.CallState.{Invocation, State, Progress};
-ghost use Rattle.faaslet_meaning.specs.Channels.{Reply as Answer, Transcript};
+ghost use Rattle.faaslet_meaning.specs.Channels.{Question, Reply as Answer, Transcript};
 ghost use Rattle.faaslet_meaning.specs.Checks.{checks, first_trap};
 ghost use Rattle.faaslet_meaning.specs.HostCalls.{HostCall};
 ghost use Rattle.host_calls.specs.CallHosts.{AreSmall};
 ghost use Rattle.host_calls.specs.Calls.{IsFresh};
 ghost use Rattle.wasm_interp.specs.StandsFor.{AsksHost};
-ghost use Rattle.faaslet_run.specs.Counted.{channel_of, is_entry, is_table, most};
-ghost use Rattle.faaslet_run.specs.Hosts.{AsksThat, AtHost, HasBegun, HasCome, HasReply, HasSmall, IsAmidst};
+ghost use Rattle.faaslet_run.specs.Hosts.{AsksThat, AtHost, HasBegun, HasCome, HasReply, HasResult, HasSmall, IsAmidst};
 ghost use Rattle.faaslet_run.specs.Places.{StandsAt};
 ghost use Rattle.faaslet_run.specs.Turns.{GoesOn, IsReady, SameRoom};
+ghost use Rattle.faaslet_run.specs.declared.faaslet.Work.TheVariants as works;
 
-use crate::buffer::Buffer;
-use crate::faaslet::{Called, Faaslet, Stage};
+use crate::faaslet::{Called, Faaslet, Stage, Work};
 use crate::output::Output;
-use faaslet_meaning::{Ask, Channel, Outcome, Reply, Trap};
+use faaslet_meaning::{Outcome, Reply, Trap};
 use host_calls::{CallCall, CallStep};
 use region_map::SegmentedMemory;
 use wasm_interp::{HostAsk, Machine};
@@ -25,8 +24,8 @@ use wasm_interp::{HostAsk, Machine};
 /// The host calls before this one are those on state.
 const FIRST_ON_CALLS: u32 = 16;
 
-// The low halves of the arguments. Those that the call has are their own.
-fn low_halves(ask: HostAsk) -> HostAsk
+/// The low halves of the arguments. Those that the call has are their own.
+pub(crate) fn low_halves(ask: HostAsk) -> HostAsk
     ensures small { AreSmall result.args }
     ensures call { result.call ≡ ask.call }
     ensures same { (h : HostCall) → AsksHost ask h → HasSmall h → AsksHost result h }
@@ -41,42 +40,6 @@ fn low_halves(ask: HostAsk) -> HostAsk
             fourth % 0x1_0000_0000,
         ],
     }
-}
-
-fn is_on_table(ask: Ask) -> bool
-    ensures { result ≡ is_table (channel_of ask) }
-{
-    match ask {
-        Ask::Region { channel, .. } => match channel {
-            Channel::Table => true,
-            Channel::Local(_) | Channel::Global(_) => false,
-        },
-        Ask::Move { .. } => false,
-        Ask::Submit { .. } | Ask::Look { .. } => true,
-    }
-}
-
-// These bytes in place of others.
-fn copy_all(to: &mut [u8], from: &[u8])
-    requires { length to.old ≡ length from.now }
-    ensures { to.new ≡ from.now }
-{
-    to.copy_from_slice(from);
-}
-
-// The bytes of a machine's scratch come to a buffer.
-fn take_scratch<'s>(scratch: &mut Buffer, machine: &mut Machine<'s, SegmentedMemory<'s>>)
-    ensures scratch { scratch.new ≡ machine.old.scratch }
-    ensures machine { machine.new ≡ machine.old }
-{
-    copy_all(scratch.as_mut_slice(), machine.scratch_mut());
-}
-
-// The bytes of a buffer come to a machine's scratch.
-fn give_scratch<'s>(scratch: &Buffer, machine: &mut Machine<'s, SegmentedMemory<'s>>)
-    ensures { machine.new ≡ record machine.old { scratch = scratch.now } }
-{
-    copy_all(machine.scratch_mut(), scratch.as_slice());
 }
 
 // Appends bytes at the front of others to the output; all of them, where there are no more.
@@ -98,7 +61,7 @@ fn append_front<'s>(output: &mut Output, machine: &mut Machine<'s, SegmentedMemo
 }
 
 impl<'s> Faaslet<'s> {
-    fn called(&self) -> Called<'s>
+    pub(crate) fn called(&self) -> Called<'s>
         requires { self.now.called ≢ None }
         ensures { self.now.called ≡ Some result }
     {
@@ -130,7 +93,21 @@ impl<'s> Faaslet<'s> {
         )
     }
 
-    // The host call is done: its output is appended, and the machine goes on with its result.
+    /// A host call is done with this result: the machine goes on with it.
+    pub(crate) fn resume(&mut self, value: Option<u64>)
+        requires { (j : Invocation) × (start : State) × (transcript : Transcript) × (p : Progress)
+            × HasResult self.old j start transcript p value }
+        ensures goes { (j : Invocation) (start : State) (transcript : Transcript) (p : Progress)
+            → HasResult self.old j start transcript p value
+            → StandsAt self.new j start transcript p × IsReady self.new j p }
+        ensures fuel { self.new.machine.thread.fuel ≡ self.old.machine.thread.fuel }
+        ensures rooms { SameRoom self.old self.new }
+    {
+        self.machine.resume_host(Ok(value));
+        self.stage = Stage::Runs;
+    }
+
+    // A host call on calls is done: its output is appended, and the machine goes on with its result.
     fn go_on(&mut self, call: CallCall, value: Option<u64>)
         requires { (j : Invocation) × (start : State) × (transcript : Transcript) × (p : Progress)
             × HasCome self.old j start transcript p (CallStep.Done value) call.stage }
@@ -141,11 +118,10 @@ impl<'s> Faaslet<'s> {
         ensures rooms { SameRoom self.old self.new }
     {
         append_front(&mut self.output, &mut self.machine, call.added());
-        self.machine.resume_host(Ok(value));
-        self.stage = Stage::Runs;
+        self.resume(value);
     }
 
-    // A step of the host call was done: the call stands at its question, the machine goes on, or the call is over.
+    // A step of the host call was done: the call stands at its question, the machine goes on, or the call ends.
     fn take_up(&mut self, call: CallCall, told: CallStep)
         requires { (j : Invocation) × (start : State) × (transcript : Transcript) × (p : Progress)
             × HasCome self.old j start transcript p told call.stage }
@@ -156,13 +132,10 @@ impl<'s> Faaslet<'s> {
         ensures rooms { SameRoom self.old self.new }
     {
         match told {
-            CallStep::Ask(ask) => {
-                take_scratch(&mut self.scratch, &mut self.machine);
-                self.stage = Stage::Asks(call, ask);
-            }
+            CallStep::Ask(ask) => self.stage = Stage::Asks(Work::Call(call), ask),
             CallStep::Done(value) => self.go_on(call, value),
-            CallStep::Trap(trap) => self.stage = Stage::Over(Outcome::Trap(trap)),
-            CallStep::Want => self.stage = Stage::Over(Outcome::Want),
+            CallStep::Trap(trap) => self.end(Outcome::Trap(trap)),
+            CallStep::Want => self.end(Outcome::Want),
         }
     }
 
@@ -188,6 +161,22 @@ impl<'s> Faaslet<'s> {
         self.take_up(call, told);
     }
 
+    // A host call on calls, up to its first question or its end.
+    fn serve_call(&mut self, ask: HostAsk)
+        requires on_calls { 16 ≤ ask.call }
+        requires at { (j : Invocation) × (start : State) × (transcript : Transcript) × (s : State) × (h : HostCall)
+            × AtHost self.old j start transcript s h × AsksThat ask h }
+        ensures goes { (j : Invocation) (start : State) (transcript : Transcript) (s : State) (h : HostCall)
+            → AtHost self.old j start transcript s h → AsksThat ask h → GoesOn self.new j start transcript }
+        ensures fuel { self.new.stage ≡ Stage.Runs → self.new.machine.thread.fuel ≡ self.old.machine.thread.fuel }
+        ensures rooms { SameRoom self.old self.new }
+    {
+        match self.begin(ask) {
+            Ok(call) => self.first(call),
+            Err(trap) => self.end(Outcome::Trap(trap)),
+        }
+    }
+
     /// Does the host call at which the machine stands, up to its first question or its end.
     pub(crate) fn serve(&mut self, ask: HostAsk)
         requires { (j : Invocation) × (start : State) × (transcript : Transcript) × (s : State) × (h : HostCall)
@@ -197,43 +186,19 @@ impl<'s> Faaslet<'s> {
         ensures fuel { self.new.stage ≡ Stage.Runs → self.new.machine.thread.fuel ≡ self.old.machine.thread.fuel }
         ensures rooms { SameRoom self.old self.new }
     {
-        // Without grants each host call on state is refused at its first check.
         if ask.call < FIRST_ON_CALLS {
-            self.stage = Stage::Over(Outcome::Trap(Trap::BadKey));
-            return;
-        }
-        match self.begin(ask) {
-            Ok(call) => self.first(call),
-            Err(trap) => self.stage = Stage::Over(Outcome::Trap(trap)),
+            self.serve_state(ask);
+        } else {
+            self.serve_call(ask);
         }
     }
 
-    /// The bytes of the reply come to the machine's scratch.
-    pub(crate) fn give_scratch(&mut self)
-        ensures { self.new ≡ record self.old { machine = record self.old.machine { scratch = self.old.scratch } } }
-    {
-        give_scratch(&self.scratch, &mut self.machine);
-    }
-
-    /// One entry more, where the reply to the question is one.
-    pub(crate) fn count(&mut self, ask: Ask, reply: Reply)
-        requires { (n : ℕ) × (self.old.counts ≡ n ∷ []) }
-        ensures only { self.new ≡ record self.old { counts = self.new.counts } }
-        ensures counts { self.new.counts ≡ (if is_entry ask reply then min (slice_index self.old.counts 0 + 1) most ∷ [] else self.old.counts) }
-    {
-        if is_on_table(ask) && !matches!(reply, Reply::Want) {
-            self.counts.raise_table();
-        }
-    }
-
-    /// A step of the host call after the reply.
-    pub(crate) fn after(&mut self, mut call: CallCall, reply: Reply)
-        requires { (j : Invocation) × (start : State) × (transcript : Transcript) × (s : State) × (h : HostCall) × (r : Answer)
-            × IsAmidst self.old j start transcript (replied j s r)
-            × HasReply self.old j start.config.fuel s h call.stage reply r }
-        ensures goes { (j : Invocation) (start : State) (transcript : Transcript) (s : State) (h : HostCall) (r : Answer)
-            → IsAmidst self.old j start transcript (replied j s r)
-            → HasReply self.old j start.config.fuel s h call.stage reply r
+    /// A step of a host call on calls after the reply.
+    pub(crate) fn after_call(&mut self, mut call: CallCall, reply: Reply)
+        requires { (j : Invocation) × (start : State) × (transcript : Transcript) × (s : State) × (q : Question) × (r : Answer)
+            × HasReply self.old j start transcript s q r (works.Call call) reply }
+        ensures goes { (j : Invocation) (start : State) (transcript : Transcript) (s : State) (q : Question) (r : Answer)
+            → HasReply self.old j start transcript s q r (works.Call call) reply
             → StandsAt self.new j start transcript (replied j s r) × IsReady self.new j (replied j s r) }
         ensures rooms { SameRoom self.old self.new }
     {

@@ -3,9 +3,12 @@
 
 mod buffer;
 mod faaslet;
+mod grants;
 mod host;
 mod laws;
 mod output;
+mod state;
+mod stops;
 mod tally;
 
 pub use call_table::Job;

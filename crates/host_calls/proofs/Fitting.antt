@@ -1,6 +1,6 @@
 -- A reply that fits the question at which a host call on calls stands belongs to it.
-use Rattle.std.proofs.Common.{◌≡◌, ℕ, ◌+◌, ◌<◌, ◌≤◌, Bool, true, false, List, [], ◌∷◌, Option, Some, None, length, take, refl, ap, arith, ◌∙◌, sym, subst, cond, not, eqb-true}
-use Rattle.std.specs.Prelude.{IsTrue, option_map, nat_le, nat_lt, filter, slice_get, unwrap_or, ◌==◌, ◌&&◌}
+use Rattle.std.proofs.Common.{◌≡◌, ℕ, ◌+◌, ◌<◌, ◌≤◌, Bool, true, false, List, ◌∷◌, Option, Some, None, length, take, refl, ap, arith, ◌∙◌, sym, subst, cond, not, eqb-true}
+use Rattle.std.specs.Prelude.{IsTrue, option_map, nat_le, nat_lt, filter, slice_get, unwrap_or, ◌&&◌}
 use Rattle.std.proofs.lemmas.Bool.{leb-true, ltb-true, and_parts}
 use Rattle.std.proofs.lemmas.List.{length-take-le}
 use Rattle.std.proofs.lemmas.Option.{same_Some}
@@ -11,17 +11,17 @@ use Rattle.faaslet_meaning.specs.declared.grant.Channel.TheVariants.{Table}
 use Rattle.faaslet_meaning.specs.declared.outcome.Outcome.{Outcome}
 use Rattle.faaslet_meaning.specs.Asked.{question_at, question_in}
 use Rattle.faaslet_meaning.specs.Asks.{front, reply_of, RepliesAs}
-use Rattle.faaslet_meaning.specs.Call.{fits, comes, same_length, child_limit, output_limit}
-use Rattle.faaslet_meaning.specs.CallState.{Invocation, State, Stage, calling, local}
+use Rattle.faaslet_meaning.specs.Call.{fits, same_length, child_limit, output_limit}
+use Rattle.faaslet_meaning.specs.CallState.{Invocation, State, calling, local}
 use Rattle.faaslet_meaning.specs.Channels.{RegionOperation, Operation, on_region, Question, ask, has_form, Reply as Answer}
 use Rattle.faaslet_meaning.specs.Checks.{fits_in, noted}
-use Rattle.faaslet_meaning.specs.Memory.{Memory, Home, private, mapped, Piece, is_private, Access, reads, writes, Touch, reads_piece, writes_piece, touch_of, pieces}
+use Rattle.faaslet_meaning.specs.Memory.{Memory, Home, private, mapped, Piece, is_private, reads, writes, Touch, reads_piece, writes_piece, touch_of}
 use Rattle.faaslet_meaning.specs.Serve.{channel, touch_question}
 use Rattle.host_calls.specs.declared.call_call.CallStage.{CallStage}
 use Rattle.host_calls.specs.declared.call_call.CallStage.TheVariants as stage
 use Rattle.host_calls.specs.declared.span.Span.{Span}
-use Rattle.host_calls.specs.Buffers.{AtShared, pieces_left, bytes_left, reading_on, writing_on}
-use Rattle.host_calls.specs.Calls.{Here, IsAmid, IsOf, AtPiece, AtQuestion, Belongs, IsAllowed, work_of}
+use Rattle.host_calls.specs.Buffers.{bytes_left, reading_on, writing_on}
+use Rattle.host_calls.specs.Calls.{Here, AtPiece, AtQuestion, Belongs, IsAllowed, work_of}
 use Rattle.host_calls.specs.Children.{noted_at}
 
 never : {A : Type 0} → false ≡ true → A

@@ -9,11 +9,14 @@ use Rattle.faaslet_meaning.specs.declared.grant.Mode.TheVariants as mode
 use Rattle.faaslet_meaning.specs.declared.outcome.Trap.{Trap}
 use Rattle.faaslet_meaning.specs.declared.outcome.Trap.TheVariants.{BadKey, Denied, StateRange, LockMisuse, TooManyLocks, TooManyMappings, MapFull}
 use Rattle.faaslet_meaning.specs.HostCalls.{HostCall}
+use Rattle.faaslet_meaning.specs.Fine.{has_result}
 use Rattle.faaslet_meaning.specs.Memory.{Memory, grant_limit, mapping_limit, may_map, key_pages}
 use Rattle.faaslet_meaning.specs.MemoryRules.{granted, includes}
 use Rattle.faaslet_meaning.specs.CallState.{Invocation, State, address_of}
 use Rattle.faaslet_meaning.specs.Checks.{checks, first_trap, limit_checks, memory_checks, few_mappings, in_key, not_held, is_held as held_so, few_locks, holds, fits_in, key_size, lock_limit}
 use Rattle.faaslet_meaning.specs.Operations.{operations, address_or_map}
+use Rattle.host_calls.specs.declared.state_act.Put.{Put}
+use Rattle.host_calls.specs.declared.state_act.Put.TheVariants as put
 use Rattle.host_calls.specs.declared.state_host.StateHost.{StateHost}
 use Rattle.host_calls.specs.declared.state_host.StateKind.{StateKind}
 use Rattle.host_calls.specs.declared.state_host.StateKind.TheVariants as kind
@@ -21,11 +24,12 @@ use Rattle.host_calls.specs.declared.state_known.Known.{Known}
 use Rattle.host_calls.specs.declared.state_known.PlaceKnown.{PlaceKnown}
 use Rattle.host_calls.specs.declared.state_known.Tier.{Tier}
 use Rattle.host_calls.specs.declared.state_known.Tier.TheVariants as tier
+use Rattle.host_calls.specs.Acts.{act_put}
 use Rattle.host_calls.specs.CallHosts.{HasShort}
 use Rattle.host_calls.specs.Known.{kept, is_held, tier_of, place_of, KeepsOf}
 use Rattle.host_calls.specs.Reads.{size_of}
 use Rattle.host_calls.specs.StateHosts.{host_at, host_of, needs_of, range_trap, limit_of, refusal_of}
-use Rattle.host_calls.specs.States.{acts_at, trap_at, stage_by, stage_of, IsFresh, IsBegun}
+use Rattle.host_calls.specs.States.{acts_at, trap_at, stage_by, stage_of, IsFresh, IsBegun, act_gives, put_gives, gives_result}
 use Rattle.host_calls.proofs.Hosts.{trap_first}
 use Rattle.host_calls.proofs.Keeping.{held_is}
 
@@ -207,3 +211,38 @@ is_fresh grants known k n x short p = by x short p.limit
     by (kind.Append ptr len) s e = (below, record { none = refl; short = s })
     by (kind.Lock t m) s e = let f = lock_free (is_held (kept known k) t) (nat_lt known.locks lock_limit) e in (below, (f.0, ltb-true _ _ f.1))
     by (kind.Unlock t) s e = (below, few_is (is_held (kept known k) t) LockMisuse e)
+
+-- ---- results
+
+got_gives : (k n : ℕ) (address : Option ℕ) → gives_result (stage_by k n address kind.Get) ≡ true
+got_gives k n None = refl
+got_gives k n (Some a) = refl
+
+lock_gives : (t : Tier) (m : Mode) (k : ℕ) → false ≡ has_result (host_at k (kind.Lock t m))
+lock_gives tier.Local mode.Read k = refl
+lock_gives tier.Local mode.Write k = refl
+lock_gives tier.Global mode.Read k = refl
+lock_gives tier.Global mode.Write k = refl
+
+unlock_gives : (t : Tier) (k : ℕ) → false ≡ has_result (host_at k (kind.Unlock t))
+unlock_gives tier.Local k = refl
+unlock_gives tier.Global k = refl
+
+-- it ends with a result where its type has one
+pub gives_is : (k n : ℕ) (address : Option ℕ) (x : StateKind) → gives_result (stage_by k n address x) ≡ has_result (host_at k x)
+gives_is k n address kind.Size = refl
+gives_is k n address kind.Used = refl
+gives_is k n address kind.Get = got_gives k n address
+gives_is k n address (kind.Read off ptr len) = refl
+gives_is k n address (kind.Set off ptr len) = refl
+gives_is k n address kind.Push = refl
+gives_is k n address kind.Pull = refl
+gives_is k n address (kind.PushPart off len) = refl
+gives_is k n address (kind.PullPart off len) = refl
+gives_is k n address (kind.Append ptr len) = refl
+gives_is k n address (kind.Lock t m) = lock_gives t m k
+gives_is k n address (kind.Unlock t) = unlock_gives t k
+
+pub put_gives_is : (p : Put) (len : ℕ) → act_gives (act_put p len) ≡ put_gives p
+put_gives_is (put.At off) len = refl
+put_gives_is put.Behind len = refl

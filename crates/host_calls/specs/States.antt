@@ -1,5 +1,5 @@
 -- A host call on state in progress: what the definition has left of it, and what a step of it comes to. This project's own.
-use Rattle.std.specs.Prelude.{◌≡◌, ℕ, ◌<◌, ◌≤◌, List, [], ◌∷◌, Option, Some, None, Ok, Err, Result, Bool, true, false, IsTrue, length, take, if◌then◌else◌}
+use Rattle.std.specs.Prelude.{◌≡◌, ℕ, ◌<◌, ◌≤◌, List, [], ◌∷◌, Option, Some, None, Ok, Err, Result, Bool, true, false, IsTrue, is_some, length, take, if◌then◌else◌}
 use Rattle.faaslet_meaning.specs.declared.ask.Ask.{Ask}
 use Rattle.faaslet_meaning.specs.declared.ask.Reply.{Reply}
 use Rattle.faaslet_meaning.specs.declared.ask.Reply.TheVariants as reply
@@ -264,3 +264,29 @@ act_question j s k a aside = first_question j (act_carries s a aside) (acts_of k
 
 abbrev pub acted : Invocation → State → Here → ℕ → StateAct → Answer → Served
 acted j s h k a answer = first_reply j (act_carries s a h.aside) (acts_of k a) answer
+
+-- ---- Whether it ends with a result, where it ends without a trap
+
+abbrev pub act_gives : StateAct → Bool
+act_gives act.Map = true
+act_gives act.Used = true
+act_gives (act.Append len) = true
+act_gives _ = false
+
+abbrev pub put_gives : Put → Bool
+put_gives (put.At off) = false
+put_gives put.Behind = true
+
+abbrev pub gives_result : StateStage → Bool
+gives_result (stage.Gives n) = true
+gives_result (stage.Collects k p b) = put_gives p
+gives_result (stage.Probes k a) = act_gives a
+gives_result (stage.Fills k a) = act_gives a
+gives_result (stage.Acts k a) = act_gives a
+gives_result (stage.Sends b) = false
+
+-- what a step tells has a result where the call has one, and what is left of it at a question does too
+abbrev pub GivesSo : Bool → StateStep → StateStage → Type 0
+GivesSo b (step.Ask a) t = gives_result t ≡ b
+GivesSo b (step.Done o) t = is_some o ≡ b
+GivesSo b (step.Trap x) t = Unit {0}

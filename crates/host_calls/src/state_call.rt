@@ -1,12 +1,13 @@
 //! A host call on state as it goes on, from question to question.
 
-ghost use Rattle.std.specs.Prelude.{◌≡◌, ℕ, ◌+◌, ◌*◌, ◌<◌, ◌≤◌, All, List, Option, Some, None, IfErr, IfOk, IsTrue, length, true};
+ghost use Rattle.std.specs.Prelude.{◌≡◌, ℕ, ◌+◌, ◌*◌, ◌<◌, ◌≤◌, All, List, Option, Some, None, IfErr, IfOk, IsTrue, false, length, true};
 ghost use Rattle.faaslet_meaning.specs.Asks.{RepliesAs};
 ghost use Rattle.faaslet_meaning.specs.Asked.{question_at};
 ghost use Rattle.faaslet_meaning.specs.Call.{replied, serve};
 ghost use Rattle.faaslet_meaning.specs.CallState.{Invocation, State};
 ghost use Rattle.faaslet_meaning.specs.Channels.{Question, Reply as Answer};
 ghost use Rattle.faaslet_meaning.specs.Checks.{checks, first_trap};
+ghost use Rattle.faaslet_meaning.specs.Fine.{has_result};
 ghost use Rattle.faaslet_meaning.specs.Formed.{KeysDiffer};
 ghost use Rattle.faaslet_meaning.specs.HostCalls.{HostCall};
 ghost use Rattle.faaslet_meaning.specs.Memory.{grant_limit, mappings};
@@ -16,7 +17,7 @@ ghost use Rattle.host_calls.specs.Buffers.{IsWithin};
 ghost use Rattle.host_calls.specs.CallHosts.{AreSmall, HasShort};
 ghost use Rattle.host_calls.specs.Known.{KeepsOf};
 ghost use Rattle.host_calls.specs.Calls.{fresh_span};
-ghost use Rattle.host_calls.specs.States.{here, IsOf, IsAct, stage_by, act_trap, stage_of, trap_at, IsShortStage, IsFresh, maps, AtQuestion, ActBelongs, IsBegun, IsAmid, Belongs, Shows, Comes, goes, sends, collecting, sees, probed, act_question, acted};
+ghost use Rattle.host_calls.specs.States.{here, IsOf, IsAct, stage_by, act_trap, stage_of, trap_at, IsShortStage, IsFresh, maps, AtQuestion, ActBelongs, IsBegun, IsAmid, Belongs, Shows, Comes, goes, sends, collecting, sees, probed, act_question, acted, act_gives, put_gives, gives_result, GivesSo};
 ghost use Rattle.host_calls.specs.declared.state_call.StateStage.TheVariants as stages;
 ghost use Rattle.host_calls.specs.declared.state_known.Known.{Known as Keeping};
 
@@ -156,6 +157,7 @@ impl StateCall {
             → j.program.grants ≡ grants.now → KeepsOf known.now s
             → IsBegun call.stage j s h) }
         ensures fresh { IfOk result (λ call. IsFresh call.stage (length grants.now) known.now) }
+        ensures gives { IfOk result (λ call. (h : HostCall) → AsksHost ask h → gives_result call.stage ≡ has_result h) }
     {
         let host = StateHost::of(ask);
         let list = grants.as_slice();
@@ -180,6 +182,7 @@ impl StateCall {
         ensures shows { (j : Invocation) (s : State) (known : Keeping) → j.program.grants ≡ grants.now
             → IsOf (here M.memory machine.old known) s
             → Shows j s (sends j s (here M.memory machine.old known) span) result self.new.stage (here M.memory machine.new known) }
+        ensures gives { GivesSo false result self.new.stage }
     {
         let reached = send(machine, span);
         self.stage = StateStage::Sends { span: reached.span };
@@ -205,6 +208,7 @@ impl StateCall {
         ensures shows { (j : Invocation) (s : State) → j.program.grants ≡ grants.now
             → IsOf (here M.memory machine.old known.old) s
             → Shows j s (goes j s (here M.memory machine.old known.old) (acts_of place act) act) result self.new.stage (here M.memory machine.new known.new) }
+        ensures gives { GivesSo (act_gives act) result self.new.stage }
     {
         sized(machine);
         match act.ask(key_at(grants, place)) {
@@ -233,6 +237,7 @@ impl StateCall {
         ensures shows { (j : Invocation) (s : State) → j.program.grants ≡ grants.now
             → IsOf (here M.memory machine.old known.old) s
             → Shows j s (goes j s (here M.memory machine.old known.old) (whole_acts place act) act) result self.new.stage (here M.memory machine.new known.new) }
+        ensures gives { GivesSo (act_gives act) result self.new.stage }
     {
         if is_sought(known, place, act) {
             self.stage = StateStage::Probes { place, act };
@@ -258,6 +263,7 @@ impl StateCall {
         ensures shows { (j : Invocation) (s : State) → j.program.grants ≡ grants.now
             → IsOf (here M.memory machine.old known.old) s
             → Shows j s (sees j s (here M.memory machine.old known.old) place act) result self.new.stage (here M.memory machine.new known.new) }
+        ensures gives { GivesSo (act_gives act) result self.new.stage }
     {
         known.saw(place);
         self.act(place, act, grants, known, machine)
@@ -281,6 +287,7 @@ impl StateCall {
         ensures shows { (j : Invocation) (s : State) → j.program.grants ≡ grants.now → KeysDiffer j
             → IsOf (here M.memory machine.old known.old) s
             → Shows j s (probed j s (here M.memory machine.old known.old) place act is_present) result self.new.stage (here M.memory machine.new known.new) }
+        ensures gives { GivesSo (act_gives act) result self.new.stage }
     {
         if is_present {
             return self.saw(place, act, grants, known, machine);
@@ -306,6 +313,7 @@ impl StateCall {
         ensures shows { (j : Invocation) (s : State) → j.program.grants ≡ grants.now
             → IsOf (here M.memory machine.old known.old) s
             → Shows j s (collecting j s (here M.memory machine.old known.old) place put span) result self.new.stage (here M.memory machine.new known.new) }
+        ensures gives { GivesSo (put_gives put) result self.new.stage }
     {
         let reached = fetch(machine, span);
         match reached.piece {
@@ -336,6 +344,7 @@ impl StateCall {
         ensures comes { (j : Invocation) (s : State) (h : HostCall) → j.program.grants ≡ grants.now
             → IsOf (here M.memory machine.old known.old) s → IsBegun self.old.stage j s h
             → Comes j s (serve j s h) result self.new.stage (here M.memory machine.new known.new) }
+        ensures gives { GivesSo (gives_result self.old.stage) result self.new.stage }
     {
         if let Some(trap) = self.stage.refusal(grants, machine) {
             return StateStep::Trap(trap);
@@ -371,6 +380,7 @@ impl StateCall {
             → IsOf (here M.memory machine.old known.old) s
             → act_question j s place act machine.old.aside ≡ Some question → RepliesAs question reply machine.old.scratch answer
             → Shows j s (acted j s (here M.memory machine.old known.old) place act answer) result self.new.stage (here M.memory machine.new known.new) }
+        ensures gives { GivesSo (act_gives act) result self.new.stage }
     {
         match (act, reply) {
             (StateAct::Read { span, .. }, Reply::Bytes(len)) => {
@@ -413,6 +423,7 @@ impl StateCall {
             → IsOf (here M.memory machine.old known.old) s → IsAmid self.old.stage (here M.memory machine.old known.old) s
             → question_at j s ≡ Some question → RepliesAs question reply machine.old.scratch answer
             → Comes j s (replied j s answer) result self.new.stage (here M.memory machine.new known.new) }
+        ensures gives { GivesSo (gives_result self.old.stage) result self.new.stage }
     {
         sized(machine);
         match (self.stage, reply) {
@@ -459,6 +470,7 @@ impl StateCall {
             → KeysDiffer j → IsOf (here M.memory machine.old known.old) s → IsAmid self.old.stage (here M.memory machine.old known.old) s
             → question_at j s ≡ Some question → RepliesAs question r machine.old.scratch answer
             → Comes j s (replied j s answer) result self.new.stage (here M.memory machine.new known.new) }
+        ensures gives { GivesSo (gives_result self.old.stage) result self.new.stage }
     {
         match last {
             None => self.first(grants.as_slice(), known, machine),

@@ -1,5 +1,10 @@
-use Rattle.std.proofs.Common.{◌≡◌, sym, ap, ◌∙◌, subst, refl, arith}
+use Rattle.std.proofs.Common.{ℕ, List, sym, subst}
+use Rattle.faaslet_run.specs.Turns.{Tells}
+use Rattle.faaslet_run.specs.declared.faaslet.Faaslet.{Faaslet}
+use Rattle.region_map.specs.Segments.{Segmented}
+use Rattle.wasm_interp.specs.declared.machine.Machine.{Machine}
 use Rattle.faaslet_run.proofs.Standing.{same_rooms, rooms_then}
+use Rattle.faaslet_run.proofs.Telling.{told_at}
 use Rattle.faaslet_run.proofs.faaslet.Faaslet.next.Goals as goal
 
 pub turns-init : goal.turns-init
@@ -21,3 +26,10 @@ turns-preserved c = record {
   goes = λ j start t p a ready. (let g = c.turns.invariant.goes j start t p a ready in c.run_on.ensures.goes j start t g.progress g.at);
   rooms = rooms_then _ _ _ c.turns.invariant.rooms c.run_on.ensures.rooms;
 }
+
+pub returns-clause-tells : goal.returns-clause-tells
+returns-clause-tells c = λ j start t p a ready.
+    let f = c.turns.self in
+    let g = told_at f j start t c.told.result c.told.ensures (c.turns.invariant.goes j start t p a ready) in
+    let b = subst (λ (bytes : List ℕ). (let x : Faaslet = record f { scratch = bytes } in Tells c.told.result x j start t)) (sym c.take_scratch.ensures.scratch) g in
+    subst (λ (m : Machine Segmented). (let x : Faaslet = record f { machine = m; scratch = c.take_scratch.new.scratch } in Tells c.told.result x j start t)) (sym c.take_scratch.ensures.machine) b

@@ -1,4 +1,3 @@
-use Rattle.std.proofs.Common.{ℕ}
 use Rattle.faaslet_meaning.specs.CallState.{Invocation, State, Progress}
 use Rattle.faaslet_meaning.specs.Channels.{Transcript}
 use Rattle.faaslet_run.specs.Places.{StandsAt}

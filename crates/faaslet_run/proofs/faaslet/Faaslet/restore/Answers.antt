@@ -1,21 +1,21 @@
-use Rattle.std.proofs.Common.{◌≡◌, sym, ap, ◌∙◌, subst, refl}
+use Rattle.std.proofs.Common.{sym, ap, ◌∙◌, subst}
 use Rattle.faaslet_meaning.specs.Configuration.{goes}
 use Rattle.faaslet_meaning.specs.Memory.{Backing, IsMemory}
 use Rattle.region_map.specs.Segments.{Segmented}
 use Rattle.wasm_interp.specs.StandsFor.{Agrees, StandsFor}
 use Rattle.wasm_interp.specs.declared.machine.Machine.{Machine}
-use Rattle.wasm_interp.proofs.Granting.{agrees_none}
 use Rattle.faaslet_run.specs.Places.{shape}
+use Rattle.faaslet_run.proofs.Granted.{agrees}
 use Rattle.faaslet_run.proofs.faaslet.Faaslet.restore.Goals as goal
 
 pub returns-clause-stands : goal.returns-clause-stands
 returns-clause-stands c =
     let p = c.args.proto.now in
     let w = c.allow.new.self.writable in
-    let none : w ≡ 0 = ap (λ (m : Machine Segmented). m.writable) c.allow.ensures.only in
+    let agreed = agrees w c.args.grants.now (ap (λ (m : Machine Segmented). m.writable) c.allow.ensures.only ∙ c.writable.ensures) in
     let same = c.sound.ensures.same in
     record {
-      stands = λ g cfg for empty made. subst (λ (m : Machine Segmented). StandsFor shape m p.code g.grants c.args.fuel (goes cfg)) (sym same) (c.restore.ensures.restored.stands g cfg for (subst (Agrees w) (sym empty) (agrees_none w none)) made);
+      stands = λ g cfg for own made. subst (λ (m : Machine Segmented). StandsFor shape m p.code g.grants c.args.fuel (goes cfg)) (sym same) (c.restore.ensures.restored.stands g cfg for (subst (Agrees w) (sym own) agreed) made);
       sound = subst (λ (m : Machine Segmented). IsMemory m.memory.memory) (sym same) c.sound.ensures.sound;
     }
 

@@ -1,4 +1,4 @@
-use Rattle.std.proofs.Common.{◌≡◌, ◌+◌, ap, sym, ◌∙◌}
+use Rattle.std.proofs.Common.{◌+◌, ap, sym, ◌∙◌}
 use Rattle.faaslet_run.proofs.Standing.{read_at}
 use Rattle.faaslet_run.proofs.faaslet.Faaslet.used.Goals as goal
 

@@ -5,7 +5,7 @@ use Rattle.host_calls.specs.declared.state_act.StateAct.TheVariants as act
 use Rattle.host_calls.specs.declared.state_call.StateStage.TheVariants as stage
 use Rattle.host_calls.specs.Acts.{acts_of, ask_of}
 use Rattle.host_calls.specs.Reads.{key_of, size_of}
-use Rattle.host_calls.specs.States.{here, IsOf, IsAct, AsksIt, EndsIt, goes}
+use Rattle.host_calls.specs.States.{here, IsOf, IsAct, AsksIt, EndsIt, goes, act_gives}
 use Rattle.host_calls.proofs.StateMachines.{carried_few, act_told, act_mapped}
 use Rattle.host_calls.proofs.StateSteps.{no_ask}
 use Rattle.host_calls.proofs.state_call.StateCall.act.Goals as goal
@@ -56,3 +56,6 @@ returns-in-None-clause-shows g c j s same i =
     let r = act_mapped shape z d.new.machine j s known d.new.known k d.result x d.ensures.only d.ensures.known mapped d.ensures.address none (omega (arith, few, c.requires.act.place)) own in
     subst (λ n. EndsIt s (goes j s (here shape c.args.machine.now known) (acts_of k x) x) (Ok (Some n)) (here shape d.new.machine d.new.known)) (sym c.from.ensures)
     (subst (λ y. EndsIt s (goes j s (here shape y known) (acts_of k x) x) (Ok (Some d.result)) (here shape d.new.machine d.new.known)) e r)
+
+pub returns-in-None-clause-gives : goal.returns-in-None-clause-gives
+returns-in-None-clause-gives g c = ap act_gives (sym (no_ask c.key_at.result c.args.act (sym c.ask.ensures ∙ c.in-None.is)))

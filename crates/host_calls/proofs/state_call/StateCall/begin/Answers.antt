@@ -1,9 +1,11 @@
 use Rattle.std.proofs.Common.{◌≡◌, None, length, ap, ◌∙◌, sym, subst}
+use Rattle.faaslet_meaning.specs.Fine.{has_result}
 use Rattle.host_calls.specs.CallHosts.{HasShort}
+use Rattle.host_calls.specs.Known.{kept}
 use Rattle.host_calls.specs.Reads.{size_of}
 use Rattle.host_calls.specs.StateHosts.{refusal_of}
-use Rattle.host_calls.specs.States.{stage_of, IsBegun, IsFresh}
-use Rattle.host_calls.proofs.StateHosts.{refuses, begins, passed, is_fresh}
+use Rattle.host_calls.specs.States.{stage_of, IsBegun, IsFresh, gives_result}
+use Rattle.host_calls.proofs.StateHosts.{refuses, begins, passed, is_fresh, gives_is}
 use Rattle.host_calls.proofs.state_call.StateCall.begin.Goals as goal
 
 pub returns-in-Some-clause-trap : goal.returns-in-Some-clause-trap
@@ -28,3 +30,8 @@ returns-in-None-clause-fresh c =
     let p = passed c.args.grants.now known host.place host.kind none in
     let f = is_fresh c.args.grants.now known host.place (size_of c.args.grants.now host.place) host.kind (subst HasShort (c.of-host.ensures h asks) short) p in
     subst (λ t. IsFresh t (length c.args.grants.now) known) (sym (c.at-stage.ensures ∙ ap (λ gs. stage_of gs known host) c.as_slice-list.ensures)) f
+
+pub returns-in-None-clause-gives : goal.returns-in-None-clause-gives
+returns-in-None-clause-gives c h a =
+    let host = c.of-host.result in
+    ap gives_result c.at-stage.ensures ∙ gives_is host.place (size_of c.as_slice-list.result.now host.place) (kept c.args.known.now host.place).address host.kind ∙ ap has_result (sym (c.of-host.ensures h a))

@@ -1,7 +1,8 @@
 use Rattle.std.proofs.Common.{◌∙◌, ap, sym, subst}
 use Rattle.host_calls.specs.Acts.{whole_acts}
-use Rattle.host_calls.specs.States.{here, IsOf, IsAct, Shows, goes}
+use Rattle.host_calls.specs.States.{here, IsOf, IsAct, Shows, goes, act_gives, GivesSo}
 use Rattle.host_calls.proofs.Loops.{stops_none, stops_some}
+use Rattle.host_calls.proofs.StateHosts.{put_gives_is}
 use Rattle.host_calls.proofs.StateMachines.{collect_told, collect_end, put_ready}
 use Rattle.host_calls.proofs.StateSteps.{of_with}
 use Rattle.host_calls.proofs.state_call.StateCall.collect_on.Goals as goal
@@ -31,3 +32,7 @@ returns-in-None-clause-shows g c j s same i =
     let v = collect_end shape c.args.machine.now r.new.machine j s known k c.args.put c.args.span r.result.span r.ensures.only r.ensures.same r.ensures.where_.1 r.ensures.within r.ensures.sound r.ensures.long end i in
     subst (λ y. Shows j s y c.set_out.result c.set_out.new.self.stage (here shape c.set_out.new.machine c.set_out.new.known))
     (sym (v ∙ ap (λ a. goes j s (here shape r.new.machine known) (whole_acts k a) a) (sym c.act.ensures))) (c.set_out.ensures.shows j s same own)
+
+pub returns-in-None-clause-gives : goal.returns-in-None-clause-gives
+returns-in-None-clause-gives g c =
+    subst (λ b. GivesSo b c.set_out.result c.set_out.new.self.stage) (ap act_gives c.act.ensures ∙ put_gives_is c.args.put c.args.span.len) c.set_out.ensures.gives
