@@ -1,27 +1,27 @@
 -- What is offered on the floor of a world is what a trace offers there.
-use Rattle.std.proofs.Common.{◌≡◌, ℕ, zero, suc, ◌+◌, ◌*◌, ◌<◌, Bool, true, false, cond, List, [], ◌∷◌, ◌++◌, Option, Some, None, length, map, filter, slice_get, unwrap_or, refl, sym, ap, ap₂, ◌∙◌, subst, append_assoc, arith}
+use Rattle.std.proofs.Common.{◌≡◌, ℕ, zero, suc, ◌+◌, ◌<◌, Bool, true, false, cond, List, [], ◌∷◌, ◌++◌, Option, Some, None, length, map, filter, slice_get, unwrap_or, refl, sym, ap, ap₂, ◌∙◌, arith}
 use Rattle.std.specs.Prelude.{◌&&◌, ◌||◌, All, is_none, is_some, nat_lt}
 use Rattle.std.specs.List.{flat_map, range_with_len}
 use Rattle.std.proofs.lemmas.Bool.{lt-ltb}
 use Rattle.std.proofs.lemmas.List.Elements.{filter-append, All-head, All-tail}
 use Rattle.faaslet_meaning.specs.declared.call.CallRecord.{CallRecord}
 use Rattle.faaslet_meaning.specs.Lists.{passes_at, places, places_from}
-use Rattle.faaslet_meaning.specs.Records.{is_queued, queued_calls}
+use Rattle.faaslet_meaning.specs.Records.{is_queued}
 use Rattle.session_meaning.specs.declared.event.Event.{Event}
 use Rattle.session_meaning.specs.declared.event.Event.TheVariants.{Take, Ask, End}
 use Rattle.session_meaning.specs.declared.event.Why.{Why}
 use Rattle.session_meaning.specs.declared.event.Why.TheVariants.{NoCall, NoHost, NotOpen, NotQueued}
-use Rattle.session_meaning.specs.Events.{open_at, why, why_ask, why_end, why_open, why_take}
+use Rattle.session_meaning.specs.Events.{why, why_ask, why_end, why_open, why_take}
 use Rattle.session_meaning.specs.OpenCall.{Open}
 use Rattle.session_meaning.specs.Plan.{Plan}
-use Rattle.session_meaning.specs.Schedule.{all_events, calls_of, has_worker, is_awaited, offered, offers, open_calls, takes_of}
+use Rattle.session_meaning.specs.Schedule.{calls_of, has_worker, is_awaited, offered, offers, takes_of}
 use Rattle.session_meaning.specs.World.{World}
 use Rattle.world_core.specs.declared.floor.Floor.{Floor}
 use Rattle.world_core.specs.declared.floor.Seat.{Seat}
 use Rattle.world_core.specs.declared.floor.Stand.{Stand}
 use Rattle.world_core.specs.declared.floor.Stand.TheVariants as stand
 use Rattle.world_core.specs.declared.floor.Waiting.{Waiting}
-use Rattle.world_core.specs.Floor.{FloorOf, StandsSo, asks_on, ends_on, has_stand, has_worker_on, may_take, offered_on, takes_at, takes_on}
+use Rattle.world_core.specs.Floor.{FloorOf, has_stand, has_worker_on, may_take, offered_on, takes_at, takes_on}
 
 -- ---- Lists.
 

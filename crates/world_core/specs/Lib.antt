@@ -1,1 +1,3 @@
 pub mod Floor
+pub mod Opened
+pub mod Seating

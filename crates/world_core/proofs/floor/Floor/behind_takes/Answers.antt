@@ -1,6 +1,6 @@
 -- Behind the Takes come the Asks, and behind those the Ends.
-use Rattle.std.proofs.Common.{◌≤◌, ◌<◌, ◌-◌, ◌*◌, sym, subst, arith}
-use Rattle.world_core.proofs.Counting.{IsBehind, ask_here, end_here, end_within, takes_count}
+use Rattle.std.proofs.Common.{◌≤◌, ◌<◌, ◌-◌, ◌*◌, sym, subst}
+use Rattle.world_core.proofs.Counting.{ask_here, end_here, end_within, takes_count}
 use Rattle.world_core.proofs.floor.Floor.behind_takes.Goals as goal
 
 pub overflow_sub-i : goal.overflow_sub-i
