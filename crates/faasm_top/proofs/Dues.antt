@@ -1,5 +1,5 @@
 -- What is due, of what the parts ensure.
-use Rattle.std.proofs.Common.{◌≡◌, ℕ, ◌≤◌, List, [], Option, Some, None, Result, Ok, Err, sym, subst, refl, arith, ◌⊎◌, inl, inr}
+use Rattle.std.proofs.Common.{◌≡◌, ℕ, ◌≤◌, List, Option, Some, None, Result, Ok, Err, sym, subst, refl, arith, ◌⊎◌, inl, inr}
 use Rattle.std.specs.Prelude.{IfOk}
 use Rattle.std.specs.String.{string_bytes}
 use Rattle.fa_outside.specs.Files.{Files, IsFile}
@@ -23,7 +23,7 @@ use Rattle.wasm_validate.specs.declared.invalid.Invalid.TheVariants as cause
 use Rattle.faasm_top.specs.declared.report.Report.{Report}
 use Rattle.faasm_top.specs.declared.words.Command as commands
 use Rattle.faasm_top.specs.declared.words.Command.TheVariants.{Check, Call, Trace, Run, Load}
-use Rattle.faasm_top.specs.Answers.{code_of, status_of, file_of, first_file_of, ReadsFile, IsDue, valid, ran, unfit, other, DueToModule, DueToCalls}
+use Rattle.faasm_top.specs.Answers.{code_of, status_of, file_of, first_file_of, ReadsFile, IsDue, valid, ran, unfit, DueToModule, DueToCalls}
 use Rattle.faasm_top.specs.Commands.{command_of}
 use Rattle.faasm_top.specs.ModuleFiles.{IsAccepted, IsRefusal, too_long, malformed, float, limit, invalid, untyped}
 use Rattle.faasm_top.specs.Refusals.{undecoded_line, invalid_line, unfit_line}
@@ -57,29 +57,12 @@ invalid_is cause.Want m bytes line d c e = absurd cc
 pub valid_due : (file bytes : List ℕ) (m : Module) → IsAccepted m bytes → DueToModule (check file) bytes 0 report.valid
 valid_due file bytes m accepted words told before after reads = valid (record { file = file; bytes = bytes; reads = reads; code = m; accepted = accepted }) refl refl
 
-pub unfit_due : (m : Module) (fuel : ℕ) (u : Unfit) → IsUnfit u m → DueToCalls m fuel 3 (unfit_line u)
-unfit_due m fuel u p words told before after input calls = unfit (record { code = m; input = input; fuel = fuel; calls = calls; why = u; unfit = p; is_line = refl }) refl
+pub unfit_due : (m : Module) (input : List ℕ) (fuel : ℕ) (u : Unfit) → IsUnfit u m → DueToCalls m input fuel 3 (unfit_line u)
+unfit_due m input fuel u p words told before after calls = unfit (record { code = m; input = input; fuel = fuel; calls = calls; why = u; unfit = p; is_line = refl }) refl
 
-pub other_due : (m : Module) (fuel : ℕ) → Runnable m → (m.imports ≡ [] → ⊥) → DueToCalls m fuel 3 report.not_built
-other_due m fuel r some words told before after input calls = other (record { code = m; input = input; fuel = fuel; calls = calls; runnable = r; imports = some }) refl refl
-
-pub run_due : (m : Module) (fuel : ℕ) (o : Outcome) (used : ℕ) → Runnable m → m.imports ≡ [] → (o ≡ outcome.Want → ⊥) → ((input : List ℕ) → Runs (call_function m fuel) input told_nothing o [] used) → DueToCalls m fuel (status_of o) (report.call_line o [] used)
-run_due m fuel o used r none no_want runs words told before after input calls =
-    ran (record {
-      code = m;
-      input = input;
-      fuel = fuel;
-      calls = calls;
-      runnable = r;
-      no_imports = none;
-      outcome = o;
-      no_want = no_want;
-      output = [];
-      used = used;
-      runs = runs input;
-      is_line = refl;
-      is_status = refl;
-    })
+pub run_due : (m : Module) (input : List ℕ) (fuel : ℕ) (o : Outcome) (output : List ℕ) (used : ℕ) → Runnable m → (o ≡ outcome.Want → ⊥) → Runs (call_function m fuel) input told_nothing o output used → DueToCalls m input fuel (status_of o) (report.call_line o output used)
+run_due m input fuel o output used r no_want runs words told before after calls =
+    ran (record { code = m; input = input; fuel = fuel; calls = calls; runnable = r; outcome = o; no_want = no_want; output = output; used = used; runs = runs; is_line = refl; is_status = refl })
 
 -- of the commands that read a file one is no call
 pub check_due : {E : Type 0} (c : commands.Command) (bytes : List ℕ) (m : Module) (r : Result Report E) → (file_of (command_of c) ≡ None → ⊥) → ((f : _) (i : List ℕ) (n : ℕ) → c ≡ Call f i n → ⊥) → IsAccepted m bytes
@@ -91,11 +74,11 @@ check_due (Trace f n) bytes m r reads other_call accepted s l = absurd (reads re
 check_due (Run f) bytes m r reads other_call accepted s l = absurd (reads refl)
 check_due (Load n) bytes m r reads other_call accepted s l = absurd (reads refl)
 
-pub call_due : {E : Type 0} (c : commands.Command) (f : _) (i : List ℕ) (n : ℕ) (bytes : List ℕ) (m : Module) (r : Result Report E) → c ≡ Call f i n → IsAccepted m bytes → IfOk r (λ x. DueToCalls m n (code_of x.status) (string_bytes x.line))
+pub call_due : {E : Type 0} (c : commands.Command) (f : _) (i : List ℕ) (n : ℕ) (bytes : List ℕ) (m : Module) (r : Result Report E) → c ≡ Call f i n → IsAccepted m bytes → IfOk r (λ x. DueToCalls m i n (code_of x.status) (string_bytes x.line))
     → IfOk r (λ x. DueToModule (command_of c) bytes (code_of x.status) (string_bytes x.line))
 call_due c f i n bytes m (Ok x) is accepted due =
     subst (λ d. DueToModule (command_of d) bytes (code_of x.status) (string_bytes x.line)) (sym is)
-    (λ words told before after reads. due words told before after i (record { file = f.now; bytes = bytes; reads = reads; accepted = accepted }))
+    (λ words told before after reads. due words told before after (record { file = f.now; bytes = bytes; reads = reads; accepted = accepted }))
 call_due c f i n bytes m (Err e) is accepted due = tt
 
 -- ---- commands

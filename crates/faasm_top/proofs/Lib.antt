@@ -1,11 +1,13 @@
-pub mod Alone
 pub mod Calls
 pub mod Decimals
 pub mod Dues
-pub mod Events
+pub mod HexLines
 pub mod Inputs
 pub mod OneLine
 pub mod OneSession
+pub mod OwnMemory
 pub mod Sessions
+pub mod Silent
 pub mod Snapshots
+pub mod Told
 pub mod Unfits

@@ -1,24 +1,20 @@
 -- Where the files are told and the shelf did not fail, one line is due.
-use Rattle.std.proofs.Common.{◌≡◌, ℕ, ◌<◌, List, Option, Some, None, refl, sym, ap, subst, ◌∙◌, arith, ◌⊎◌, inl, inr}
+use Rattle.std.proofs.Common.{◌≡◌, ℕ, List, Option, Some, None, refl, sym, ap, subst, ◌∙◌}
 use Rattle.std.specs.Prelude.{unwrap_or}
 use Rattle.fa_outside.specs.Faults.{Rose}
 use Rattle.fa_outside.specs.Files.{Files, file_named}
 use Rattle.faaslet_meaning.specs.declared.module.Module.{Module}
 use Rattle.faaslet_meaning.specs.declared.outcome.Outcome.{Outcome}
 use Rattle.faaslet_meaning.specs.Channels.{told_nothing}
-use Rattle.faaslet_meaning.specs.Decoding.{Decoded, DecodesTo}
-use Rattle.faaslet_meaning.specs.Decoding as decoding
 use Rattle.faaslet_meaning.specs.Report as report
 use Rattle.faaslet_meaning.specs.Runs.{Runs}
 use Rattle.faaslet_meaning.specs.Productions.{NoSpelling}
 use Rattle.faaslet_meaning.specs.Runnable.{Runnable, IsUnfit}
-use Rattle.faaslet_meaning.specs.Valid.{RulesHold, FirstUntyped}
 use Rattle.faaslet_meaning.specs.Words.{Command, call, check, trace, CommandOf, call_function}
-use Rattle.faaslet_meaning.proofs.OneAnswer.{one_answer}
 use Rattle.faaslet_meaning.proofs.OneCommand.{one_command}
 use Rattle.faaslet_meaning.proofs.OneModule.{one_module}
 use Rattle.faaslet_meaning.proofs.One.{one_run}
-use Rattle.faasm_top.specs.Answers.{status_of, file_of, first_file_of, Reads, IsValid, ReadsFile, CallsModule, IsRun, IsUnfitCall, IsRefused, IsLater, IsTraced, IsOther, IsDue, valid, ran, usage, refused, later, traced, unfit, other, read_fault}
+use Rattle.faasm_top.specs.Answers.{status_of, file_of, first_file_of, Reads, IsValid, ReadsFile, CallsModule, IsRun, IsUnfitCall, IsRefused, IsLater, IsTraced, IsDue, valid, ran, usage, refused, later, traced, unfit, read_fault}
 use Rattle.faasm_top.specs.ModuleFiles.{IsAccepted, IsRefusal}
 use Rattle.faasm_top.specs.Refusals.{unfit_line}
 use Rattle.faasm_top.specs.Sessions.{SessionComes}
@@ -71,21 +67,11 @@ unfit_once words files l m p q =
     let same = same_calls words files p.code q.code p.input q.input p.fuel q.fuel p.calls q.calls in
     p.is_line ∙ ap unfit_line (one_reason p.code p.why q.why p.unfit (subst (IsUnfit q.why) (sym same.0) q.unfit)) ∙ sym q.is_line
 
--- a module that a function may have is not unfit, and has imports or none
+-- a module that a function may have is not unfit
 ran_unfit : (words : List (List ℕ)) (files : Files) (s : ℕ) (l m : List ℕ) → IsRun words (Some files) s l → IsUnfitCall words (Some files) m → ⊥
 ran_unfit words files s l m p q =
     let same = same_calls words files p.code q.code p.input q.input p.fuel q.fuel p.calls q.calls in
     not_unfit q.code q.why (subst Runnable same.0 p.runnable) q.unfit
-
-other_unfit : (words : List (List ℕ)) (files : Files) (l : List ℕ) → IsOther words (Some files) → IsUnfitCall words (Some files) l → ⊥
-other_unfit words files l p q =
-    let same = same_calls words files p.code q.code p.input q.input p.fuel q.fuel p.calls q.calls in
-    not_unfit q.code q.why (subst Runnable same.0 p.runnable) q.unfit
-
-ran_other : (words : List (List ℕ)) (files : Files) (s : ℕ) (l : List ℕ) → IsRun words (Some files) s l → IsOther words (Some files) → ⊥
-ran_other words files s l p q =
-    let same = same_calls words files p.code q.code p.input q.input p.fuel q.fuel p.calls q.calls in
-    q.imports (ap (λ (m : Module). m.imports) (sym same.0) ∙ p.no_imports)
 
 -- bytes of one reading are accepted, and those of another refused
 split : (words : List (List ℕ)) (files : Files) (c : Command) (bytes line : List ℕ) (m : Module) → Reads words (Some files) c bytes → IsAccepted m bytes → IsRefused words (Some files) line → ⊥
@@ -161,61 +147,46 @@ one_line words files before after s t l m calm (valid p a b) (usage q c d) = abs
 one_line words files before after s t l m calm (valid p a b) (refused q c) = absurd (split words files (check p.file) p.bytes m p.code p.reads p.accepted q)
 one_line words files before after s t l m calm (valid p a b) (later q c d) = absurd (built words (Some files) (check p.file) p.bytes p.reads q)
 one_line words files before after s t l m calm (valid p a b) (unfit q c) = call_apart words (Some files) q.code q.input q.fuel p q.calls
-one_line words files before after s t l m calm (valid p a b) (other q c d) = call_apart words (Some files) q.code q.input q.fuel p q.calls
 one_line words files before after s t l m calm (ran p) (valid q c d) = call_apart words (Some files) p.code p.input p.fuel q p.calls
 one_line words files before after s t l m calm (ran p) (ran q) = run_once words files s t l m p q
 one_line words files before after s t l m calm (ran p) (usage q c d) = absurd (call_words words (Some files) p.code p.input p.fuel q p.calls)
 one_line words files before after s t l m calm (ran p) (refused q c) = absurd (call_split words files p.code p.input m p.fuel p.calls q)
 one_line words files before after s t l m calm (ran p) (later q c d) = absurd (call_built words (Some files) p.code p.input p.fuel p.calls q)
 one_line words files before after s t l m calm (ran p) (unfit q c) = absurd (ran_unfit words files s l m p q)
-one_line words files before after s t l m calm (ran p) (other q c d) = absurd (ran_other words files s l p q)
 one_line words files before after s t l m calm (usage p a b) (valid q c d) = absurd (p.none (check q.file) q.reads.is_command)
 one_line words files before after s t l m calm (usage p a b) (ran q) = absurd (call_words words (Some files) q.code q.input q.fuel p q.calls)
 one_line words files before after s t l m calm (usage p a b) (usage q c d) = (a ∙ sym c, b ∙ sym d)
 one_line words files before after s t l m calm (usage p a b) (refused q c) = absurd (p.none q.command q.reads.is_command)
 one_line words files before after s t l m calm (usage p a b) (later q c d) = absurd (p.none q.command q.is_command)
 one_line words files before after s t l m calm (usage p a b) (unfit q c) = absurd (call_words words (Some files) q.code q.input q.fuel p q.calls)
-one_line words files before after s t l m calm (usage p a b) (other q c d) = absurd (call_words words (Some files) q.code q.input q.fuel p q.calls)
 one_line words files before after s t l m calm (refused p a) (valid q c d) = absurd (split words files (check q.file) q.bytes l q.code q.reads q.accepted p)
 one_line words files before after s t l m calm (refused p a) (ran q) = absurd (call_split words files q.code q.input l q.fuel q.calls p)
 one_line words files before after s t l m calm (refused p a) (usage q c d) = absurd (q.none p.command p.reads.is_command)
 one_line words files before after s t l m calm (refused p a) (refused q c) = (a ∙ sym c, refused_once words files l m p q)
 one_line words files before after s t l m calm (refused p a) (later q c d) = absurd (built words (Some files) p.command p.bytes p.reads q)
 one_line words files before after s t l m calm (refused p a) (unfit q c) = absurd (call_split words files q.code q.input l q.fuel q.calls p)
-one_line words files before after s t l m calm (refused p a) (other q c d) = absurd (call_split words files q.code q.input l q.fuel q.calls p)
 one_line words files before after s t l m calm (later p a b) (valid q c d) = absurd (built words (Some files) (check q.file) q.bytes q.reads p)
 one_line words files before after s t l m calm (later p a b) (ran q) = absurd (call_built words (Some files) q.code q.input q.fuel q.calls p)
 one_line words files before after s t l m calm (later p a b) (usage q c d) = absurd (q.none p.command p.is_command)
 one_line words files before after s t l m calm (later p a b) (refused q c) = absurd (built words (Some files) q.command q.bytes q.reads p)
 one_line words files before after s t l m calm (later p a b) (later q c d) = (a ∙ sym c, b ∙ sym d)
 one_line words files before after s t l m calm (later p a b) (unfit q c) = absurd (call_built words (Some files) q.code q.input q.fuel q.calls p)
-one_line words files before after s t l m calm (later p a b) (other q c d) = (a ∙ sym c, b ∙ sym d)
 one_line words files before after s t l m calm (unfit p a) (valid q c d) = call_apart words (Some files) p.code p.input p.fuel q p.calls
 one_line words files before after s t l m calm (unfit p a) (ran q) = absurd (ran_unfit words files t m l q p)
 one_line words files before after s t l m calm (unfit p a) (usage q c d) = absurd (call_words words (Some files) p.code p.input p.fuel q p.calls)
 one_line words files before after s t l m calm (unfit p a) (refused q c) = absurd (call_split words files p.code p.input m p.fuel p.calls q)
 one_line words files before after s t l m calm (unfit p a) (later q c d) = absurd (call_built words (Some files) p.code p.input p.fuel p.calls q)
 one_line words files before after s t l m calm (unfit p a) (unfit q c) = (a ∙ sym c, unfit_once words files l m p q)
-one_line words files before after s t l m calm (unfit p a) (other q c d) = absurd (other_unfit words files l q p)
-one_line words files before after s t l m calm (other p a b) (valid q c d) = call_apart words (Some files) p.code p.input p.fuel q p.calls
-one_line words files before after s t l m calm (other p a b) (ran q) = absurd (ran_other words files t m q p)
-one_line words files before after s t l m calm (other p a b) (usage q c d) = absurd (call_words words (Some files) p.code p.input p.fuel q p.calls)
-one_line words files before after s t l m calm (other p a b) (refused q c) = absurd (call_split words files p.code p.input m p.fuel p.calls q)
-one_line words files before after s t l m calm (other p a b) (later q c d) = (a ∙ sym c, b ∙ sym d)
-one_line words files before after s t l m calm (other p a b) (unfit q c) = absurd (other_unfit words files m p q)
-one_line words files before after s t l m calm (other p a b) (other q c d) = (a ∙ sym c, b ∙ sym d)
 one_line words files before after s t l m calm (valid p a b) (traced q c) = absurd (traced_reads words (Some files) m (check p.file) p.bytes q p.reads)
 one_line words files before after s t l m calm (ran p) (traced q c) = absurd (traced_reads words (Some files) m (call p.calls.file p.input p.fuel) p.calls.bytes q p.calls.reads)
 one_line words files before after s t l m calm (usage p a b) (traced q c) = absurd (p.none (trace q.file q.seed) q.is_command)
 one_line words files before after s t l m calm (refused p a) (traced q c) = absurd (traced_reads words (Some files) m p.command p.bytes q p.reads)
 one_line words files before after s t l m calm (later p a b) (traced q c) = absurd (traced_later words (Some files) m q p)
 one_line words files before after s t l m calm (unfit p a) (traced q c) = absurd (traced_reads words (Some files) m (call p.calls.file p.input p.fuel) p.calls.bytes q p.calls.reads)
-one_line words files before after s t l m calm (other p a b) (traced q c) = absurd (traced_reads words (Some files) m (call p.calls.file p.input p.fuel) p.calls.bytes q p.calls.reads)
 one_line words files before after s t l m calm (traced p a) (valid q c d) = absurd (traced_reads words (Some files) l (check q.file) q.bytes p q.reads)
 one_line words files before after s t l m calm (traced p a) (ran q) = absurd (traced_reads words (Some files) l (call q.calls.file q.input q.fuel) q.calls.bytes p q.calls.reads)
 one_line words files before after s t l m calm (traced p a) (usage q c d) = absurd (q.none (trace p.file p.seed) p.is_command)
 one_line words files before after s t l m calm (traced p a) (refused q c) = absurd (traced_reads words (Some files) l q.command q.bytes p q.reads)
 one_line words files before after s t l m calm (traced p a) (later q c d) = absurd (traced_later words (Some files) l p q)
 one_line words files before after s t l m calm (traced p a) (unfit q c) = absurd (traced_reads words (Some files) l (call q.calls.file q.input q.fuel) q.calls.bytes p q.calls.reads)
-one_line words files before after s t l m calm (traced p a) (other q c d) = absurd (traced_reads words (Some files) l (call q.calls.file q.input q.fuel) q.calls.bytes p q.calls.reads)
 one_line words files before after s t l m calm (traced p a) (traced q c) = (a ∙ sym c, traced_once words files l m p q)

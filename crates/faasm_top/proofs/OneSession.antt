@@ -1,5 +1,5 @@
 -- The bytes of a file, and a session, have one line.
-use Rattle.std.proofs.Common.{◌≡◌, ℕ, ◌+◌, ◌<◌, ◌≤◌, List, [], ◌∷◌, length, Option, Some, None, Result, Ok, Err, refl, sym, ap, subst, ◌∙◌, arith, ◌⊎◌, inl, inr}
+use Rattle.std.proofs.Common.{◌≡◌, ℕ, ◌+◌, ◌<◌, List, [], ◌∷◌, length, Option, Some, Ok, Err, sym, ap, subst, ◌∙◌, arith, ◌⊎◌, inl, inr}
 use Rattle.std.specs.Prelude.{slice_get}
 use Rattle.fa_outside.specs.Files.{Files, file_named}
 use Rattle.faaslet_meaning.specs.declared.module.Module.{Module}
@@ -10,7 +10,7 @@ use Rattle.faaslet_meaning.specs.Runnable.{Runnable, IsUnfit}
 use Rattle.faaslet_meaning.specs.Valid.{RulesHold, FirstUntyped}
 use Rattle.faaslet_meaning.proofs.OneAnswer.{one_answer}
 use Rattle.faaslet_meaning.proofs.OneModule.{one_module}
-use Rattle.session_meaning.specs.RefusalLines.{refused_line, function_line, modules_line}
+use Rattle.session_meaning.specs.RefusalLines.{refused_line, function_line}
 use Rattle.session_meaning.specs.SessionFile.{Answer, Planned, PlanOf, Refused}
 use Rattle.session_meaning.specs.WellFormed.{function_names}
 use Rattle.session_meaning.proofs.FilePlans as plans

@@ -1,6 +1,6 @@
 -- What comes of a session, of what its parts ensure.
-use Rattle.std.proofs.Common.{◌≡◌, ℕ, zero, suc, ◌+◌, ◌<◌, ◌≤◌, Bool, false, List, [], ◌∷◌, ◌++◌, length, map, drop, get_or, Option, Some, None, Result, Ok, Err, String, Global, string_bytes, refl, sym, ap, subst, ◌∙◌, arith, add-one, length-append, ◌⊎◌, inl, inr}
-use Rattle.std.specs.Prelude.{slice_get, IsTrue, IfSome, IfOk, IfErr, IsErrAnd, OnOk, OnErr, unwrap_or}
+use Rattle.std.proofs.Common.{◌≡◌, ℕ, zero, suc, ◌+◌, ◌<◌, ◌≤◌, Bool, List, [], ◌∷◌, ◌++◌, length, map, drop, get_or, Option, Some, None, Result, Ok, Err, String, Global, string_bytes, refl, sym, ap, subst, ◌∙◌, arith, add-one, length-append, inl, inr}
+use Rattle.std.specs.Prelude.{slice_get, IfSome, IfOk, IfErr, IsErrAnd, OnOk, OnErr, unwrap_or}
 use Rattle.fa_outside.specs.declared.fault.ReadFault.{ReadFault}
 use Rattle.fa_outside.specs.declared.fault.ReadFault.TheVariants as read_faults
 use Rattle.fa_outside.specs.Faults.{Rose}
@@ -23,10 +23,10 @@ use Rattle.faasm_top.specs.declared.words.Command as commands
 use Rattle.faasm_top.specs.declared.words.Command.TheVariants.{Trace}
 use Rattle.faasm_top.specs.Answers.{code_of, IsDue, traced, read_fault}
 use Rattle.faasm_top.specs.Commands.{texts, command_of}
-use Rattle.faasm_top.specs.ModuleFiles.{too_long, IsUnusable, refused}
+use Rattle.faasm_top.specs.ModuleFiles.{too_long, refused}
 use Rattle.faasm_top.specs.declared.stop.Stop.{Stop}
 use Rattle.faasm_top.specs.declared.stop.Stop.TheVariants as stops
-use Rattle.faasm_top.specs.Sessions.{IsFunctionLine, TakesFile, RefusesFile, unusable, ModulesCome, IsSession, RefusesSession, SessionComes, StopsBy}
+use Rattle.faasm_top.specs.Sessions.{IsFunctionLine, TakesFile, RefusesFile, unusable, ModulesCome, RefusesSession, SessionComes, StopsBy}
 use Rattle.faasm_top.proofs.Dues.{DueToCommand}
 
 -- ---- counts of faults

@@ -1,6 +1,5 @@
 -- What is due to the words and the files: a line, and the status that goes with it. This project's own.
--- PROVISIONAL: of the commands `check` and `call` do their work, and of the modules that a function may have those without
--- imports run; `trace` says why a session is refused, and runs none.
+-- PROVISIONAL: of the commands `check` and `call` do their work; `trace` says why a session is refused, and runs none.
 use Rattle.std.specs.Prelude.{◌≡◌, ◌≢◌, ℕ, ◌≤◌, Bool, false, List, [], Option, Some, None, IsSome, IsTrue, unwrap_or}
 use Rattle.fa_outside.specs.Appended.{Appends, AppendsPart}
 use Rattle.fa_outside.specs.Faults.{Rose}
@@ -79,14 +78,13 @@ pub record CallsModule (words : List (List ℕ)) (told : Option Files) (code : M
   pub reads : Reads words told (call file input fuel) bytes
   pub accepted : IsAccepted code bytes
 
--- `call` of a module without imports that a function may have: the line of what its run comes to
+-- `call` of a module that a function may have: the line of what its run comes to
 pub record IsRun (words : List (List ℕ)) (told : Option Files) (status : ℕ) (line : List ℕ) : Type 0 where
   pub code : Module
   pub input : List ℕ
   pub fuel : ℕ
   pub calls : CallsModule words told code input fuel
   pub runnable : Runnable code
-  pub no_imports : code.imports ≡ []
   pub outcome : Outcome
   pub no_want : outcome ≢ outcomes.Want
   pub output : List ℕ
@@ -127,15 +125,6 @@ pub record IsTraced (words : List (List ℕ)) (told : Option Files) (line : List
   pub comes : SessionComes told file answer
   pub is_line : line ≡ unwrap_or answer report.not_built
 
--- `call` of a module with imports that a function may have
-pub record IsOther (words : List (List ℕ)) (told : Option Files) : Type 0 where
-  pub code : Module
-  pub input : List ℕ
-  pub fuel : ℕ
-  pub calls : CallsModule words told code input fuel
-  pub runnable : Runnable code
-  pub imports : code.imports ≢ []
-
 -- a command that reads a file, and the shelf's count rose
 pub record IsReadFault (words : List (List ℕ)) (before after : ℕ) : Type 0 where
   pub reads : ReadsFile words
@@ -150,7 +139,6 @@ pub data IsDue (words : List (List ℕ)) (told : Option Files) (before after : �
   later : IsLater words → status ≡ 3 → line ≡ report.not_built → IsDue words told before after status line
   traced : IsTraced words told line → status ≡ 3 → IsDue words told before after status line
   unfit : IsUnfitCall words told line → status ≡ 3 → IsDue words told before after status line
-  other : IsOther words told → status ≡ 3 → line ≡ report.not_built → IsDue words told before after status line
   read_fault : IsReadFault words before after → status ≡ 4 → line ≡ report.read_fault → IsDue words told before after status line
 
 -- whatever the words that are this command, where its file holds these bytes
@@ -158,10 +146,10 @@ abbrev pub DueToModule : Command → List ℕ → ℕ → List ℕ → Type 0
 DueToModule command bytes status line =
     (words : List (List ℕ)) (told : Option Files) (before after : ℕ) → Reads words told command bytes → IsDue words told before after status line
 
--- whatever the words that are `call` with this fuel, where their file holds this valid module
-abbrev pub DueToCalls : Module → ℕ → ℕ → List ℕ → Type 0
-DueToCalls code fuel status line =
-    (words : List (List ℕ)) (told : Option Files) (before after : ℕ) (input : List ℕ) → CallsModule words told code input fuel → IsDue words told before after status line
+-- whatever the words that are `call` with this input and this fuel, where their file holds this valid module
+abbrev pub DueToCalls : Module → List ℕ → ℕ → ℕ → List ℕ → Type 0
+DueToCalls code input fuel status line =
+    (words : List (List ℕ)) (told : Option Files) (before after : ℕ) → CallsModule words told code input fuel → IsDue words told before after status line
 
 -- the line that is due was written whole, and the status is its own
 pub record WritesWhole (words : List (List ℕ)) (told : Option Files) (before after : ℕ) (old new : Option (List ℕ)) (status : ℕ) : Type 0 where

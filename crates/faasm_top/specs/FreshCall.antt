@@ -1,16 +1,23 @@
--- A machine that is about to run a call. This project's own.
-use Rattle.std.specs.Prelude.{◌≡◌, ℕ, []}
+-- A Faaslet before a call, and one that is about to run it. This project's own.
+use Rattle.std.specs.Prelude.{◌≡◌, ℕ, ◌≤◌, List, [], length, take}
 use Rattle.faaslet_meaning.specs.declared.module.Module.{Module}
-use Rattle.faaslet_meaning.specs.Configuration.{Configuration, goes}
+use Rattle.faaslet_meaning.specs.CallState.{runs, fresh_state}
+use Rattle.faaslet_meaning.specs.Configuration.{Configuration}
 use Rattle.faaslet_meaning.specs.Fresh.{fresh, makes}
-use Rattle.faaslet_meaning.specs.Memory.{Memory}
+use Rattle.faaslet_meaning.specs.Runs.{invocation}
 use Rattle.faaslet_meaning.specs.Words.{call_function}
-use Rattle.wasm_interp.specs.StandsFor.{StandsFor}
-use Rattle.wasm_interp.specs.declared.machine.Machine.{Machine}
+use Rattle.faaslet_run.specs.Places.{StandsAt}
+use Rattle.faaslet_run.specs.declared.faaslet.Faaslet.{Faaslet}
+use Rattle.proto_faaslet.specs.Entries.{HasRoom}
 
--- it stands for the fresh state of a call with this fuel of a module without imports
-pub record IsFreshCall {M : Type 0} (shape : M → Memory) (m : Machine M) (code : Module) (fuel : ℕ) : Type 0 where
-  pub no_imports : code.imports ≡ []
+-- it has room for a call of the module, and the input at the front of its bytes
+pub record CanRun (f : Faaslet) (code : Module) (input : List ℕ) : Type 0 where
+  pub room : HasRoom f.machine code
+  pub pages : 64 ≤ f.machine.memory.room
+  pub front : take (length input) f.input ≡ input
+
+-- it stands where a call of the module with this fuel and this input begins, by no reply so far
+pub record IsFreshCall (f : Faaslet) (code : Module) (fuel : ℕ) (input : List ℕ) : Type 0 where
   pub config : Configuration
   pub is_fresh : fresh (call_function code fuel) ≡ makes config
-  pub stands : StandsFor shape m code [] fuel (goes config)
+  pub stands : StandsAt f (invocation (call_function code fuel) input) (fresh_state config) [] (runs (fresh_state config))

@@ -1,13 +1,13 @@
 //! What the program does.
 
-ghost use Rattle.std.specs.Prelude.{◌≡◌, ℕ, ◌<◌, ◌≤◌, ◌≢◌, ◌⊎◌, List, [], Some, None, IsSome, IsTrue, IfOk, IfErr, false};
+ghost use Rattle.std.specs.Prelude.{◌≡◌, ℕ, ◌<◌, ◌≤◌, ◌≢◌, ◌⊎◌, List, [], Some, None, IsSome, IsTrue, IfOk, IfErr, false, length};
 ghost use Rattle.std.specs.String.{string_bytes};
 ghost use Rattle.fa_outside.specs.Faults.{Rose};
 ghost use Rattle.fa_outside.specs.Files.{Files};
 ghost use Rattle.faaslet_meaning.specs.Decoding.{first_passed};
 ghost use Rattle.faaslet_meaning.specs.Words.{CommandOf};
 ghost use Rattle.faasm_top.specs.Answers.{code_of, file_of, first_file_of, ReadsFile, IsDue, DueToModule, DueToCalls, WritesWhole, WritesPart};
-ghost use Rattle.faasm_top.specs.Commands.{texts, command_of};
+ghost use Rattle.faasm_top.specs.Commands.{HasShortInput, texts, command_of};
 
 use crate::module_files::{MODULE_LIMIT, read_valid};
 use crate::outcomes::ended;
@@ -22,25 +22,30 @@ use std::alloc::{AllocError, Global};
 use wasm_decode::DecodeFault;
 use wasm_validate::ValidModule;
 
-/// Answers a call of a valid module, whatever its input.
-fn call_module(alloc: Global, module: &ValidModule, fuel: u64) -> Result<Report, AllocError>
-    requires { first_passed «module».now ≡ None }
-    ensures due { IfOk result (λ r. DueToCalls «module».now fuel (code_of r.status) (string_bytes r.line)) }
+/// Answers a call of a valid module.
+fn call_module(
+    alloc: Global,
+    module: &ValidModule,
+    input: &[u8],
+    fuel: u64,
+) -> Result<Report, AllocError>
+    requires limits { first_passed «module».now ≡ None }
+    requires few { length input.now ≤ 65536 }
+    ensures due { IfOk result (λ r. DueToCalls «module».now input.now fuel
+        (code_of r.status) (string_bytes r.line)) }
     ensures no_fault { IfOk result (λ r. code_of r.status ≢ 4) }
 {
     if let Err(why) = fits(module) {
         return unfit(alloc, why);
     }
-    if !module.module().imports.as_slice().is_empty() {
-        return not_built(alloc);
-    }
-    let ran = run(alloc, module, fuel)?;
-    ended(alloc, ran.outcome, ran.used)
+    let ran = run(alloc, module, input, fuel)?;
+    ended(alloc, ran.outcome, &ran.output, ran.used)
 }
 
 /// Answers a command that reads a file with these bytes.
 fn answer_module(alloc: Global, bytes: &[u8], command: &Command<'_>) -> Result<Report, AllocError>
-    requires { file_of (command_of command.now) ≢ None }
+    requires reads { file_of (command_of command.now) ≢ None }
+    requires short { HasShortInput (command_of command.now) }
     ensures due { IfOk result (λ r. DueToModule (command_of command.now) bytes.now
         (code_of r.status) (string_bytes r.line)) }
     ensures no_fault { IfOk result (λ r. code_of r.status ≢ 4) }
@@ -50,7 +55,9 @@ fn answer_module(alloc: Global, bytes: &[u8], command: &Command<'_>) -> Result<R
         Err(report) => return Ok(report),
     };
     match command {
-        Command::Call { fuel, .. } => call_module(alloc, &module, *fuel),
+        Command::Call { input, fuel, .. } => {
+            call_module(alloc, &module, input.as_slice(), *fuel)
+        }
         _ => valid(alloc),
     }
 }
@@ -61,7 +68,8 @@ fn answer_other<F: Shelf>(
     shelf: &mut F,
     command: &Command<'_>,
 ) -> Result<Report, AllocError>
-    requires { first_file_of (command_of command.now) ≡ file_of (command_of command.now) }
+    requires no_session { first_file_of (command_of command.now) ≡ file_of (command_of command.now) }
+    requires short { HasShortInput (command_of command.now) }
     ensures due { IfOk result (λ r. (words : List (List ℕ))
         → CommandOf (command_of command.now) words
         → IsDue words (F.told shelf.old) (F.faults shelf.old) (F.faults shelf.new)
@@ -93,6 +101,7 @@ fn answer_command<F: Shelf>(
     shelf: &mut F,
     command: &Command<'_>,
 ) -> Result<Report, AllocError>
+    requires { HasShortInput (command_of command.now) }
     ensures due { IfOk result (λ r. (words : List (List ℕ))
         → CommandOf (command_of command.now) words
         → IsDue words (F.told shelf.old) (F.faults shelf.old) (F.faults shelf.new)

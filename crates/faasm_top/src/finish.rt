@@ -1,35 +1,39 @@
 //! A call from its fresh state to its end.
 
-ghost use Rattle.std.specs.Prelude.{◌≡◌, ◌≢◌, ℕ, List, []};
+ghost use Rattle.std.specs.Prelude.{◌≡◌, ◌≢◌, ℕ, List, IfOk};
 ghost use Rattle.faaslet_meaning.specs.declared.module.Module.{Module};
 ghost use Rattle.faaslet_meaning.specs.Channels.{told_nothing};
 ghost use Rattle.faaslet_meaning.specs.Runs.{Runs};
 ghost use Rattle.faaslet_meaning.specs.Words.{call_function};
 ghost use Rattle.faasm_top.specs.FreshCall.{IsFreshCall};
 
-use faaslet_meaning::{Linear, Outcome};
-use wasm_interp::{Event, Machine};
+use faaslet_meaning::Outcome;
+use faaslet_run::{Faaslet, Turn};
+use std::alloc::{AllocError, Global};
 
-/// What a call came to, and the fuel that it used.
-#[derive(Clone, Copy, Debug)]
+/// What a call came to, the fuel that it used, and its output.
+#[derive(Debug, Drop)]
 pub struct Ran {
     pub outcome: Outcome,
     pub used: u64,
+    pub output: Vec<u8>,
 }
 
-/// What the call comes to that a machine is about to run.
-pub fn finish<M: Linear>(machine: &mut Machine<'_, M>) -> Ran
-    requires { (code : Module) × (fuel : ℕ) × IsFreshCall M.memory machine.old code fuel }
-    ensures runs { (code : Module) (fuel : ℕ) → IsFreshCall M.memory machine.old code fuel
-        → (input : List ℕ) → Runs (call_function code fuel) input told_nothing result.outcome [] result.used }
-    ensures no_want { result.outcome ≢ Outcome.Want }
+/// What the call comes to that a Faaslet is about to run.
+pub fn finish(alloc: Global, faaslet: &mut Faaslet<'_>) -> Result<Ran, AllocError>
+    requires { (code : Module) × (fuel : ℕ) × (input : List ℕ) × IsFreshCall faaslet.old code fuel input }
+    ensures runs { IfOk result (λ r. (code : Module) (fuel : ℕ) (input : List ℕ)
+        → IsFreshCall faaslet.old code fuel input
+        → Runs (call_function code fuel) input told_nothing r.outcome r.output.items r.used) }
+    ensures no_want { IfOk result (λ r. r.outcome ≢ Outcome.Want) }
 {
-    match machine.run() {
-        Event::Ended(outcome) => Ran {
-            outcome,
-            used: machine.used(),
-        },
-        // Its memory is private, and it imports nothing.
-        Event::Piece(_) | Event::Host(_) => unreachable!(),
-    }
+    let Turn::Ended(outcome) = faaslet.next() else {
+        // Without grants and callable functions no question comes.
+        unreachable!()
+    };
+    Ok(Ran {
+        outcome,
+        used: faaslet.used(),
+        output: Vec::from_slice(alloc, faaslet.output())?,
+    })
 }

@@ -38,13 +38,15 @@ fn trap_text(trap: Trap) -> &'static str
     }
 }
 
-/// The line of a run to its end, without output.
-fn done_line(alloc: Global, code: i32, used: u64) -> Result<String, AllocError>
-    ensures { IfOk result (λ l. string_bytes l ≡ report.call_line (Outcome.Done code) [] used) }
+/// The line of a run to its end.
+fn done_line(alloc: Global, code: i32, output: &[u8], used: u64) -> Result<String, AllocError>
+    ensures { IfOk result (λ l. string_bytes l ≡ report.call_line (Outcome.Done code) output.now used) }
 {
-    Ok(format!(in alloc; "call done {code} used {used} output \n")?)
+    let output = hex::encode(alloc, output)?;
+    Ok(format!(in alloc; "call done {code} used {used} output {output}\n")?)
 }
 
+/// The line of a trap, which doesn't tell what was put out before it.
 fn trap_line(alloc: Global, trap: Trap, used: u64) -> Result<String, AllocError>
     ensures { IfOk result (λ l. string_bytes l ≡ report.call_line (Outcome.Trap trap) [] used) }
 {
@@ -71,11 +73,16 @@ fn broken_line(alloc: Global, kind: Broken) -> Result<String, AllocError>
     }
 }
 
-fn outcome_line(alloc: Global, outcome: Outcome, used: u64) -> Result<String, AllocError>
-    ensures { IfOk result (λ l. string_bytes l ≡ report.call_line outcome [] used) }
+fn outcome_line(
+    alloc: Global,
+    outcome: Outcome,
+    output: &[u8],
+    used: u64,
+) -> Result<String, AllocError>
+    ensures { IfOk result (λ l. string_bytes l ≡ report.call_line outcome output.now used) }
 {
     match outcome {
-        Outcome::Done(code) => done_line(alloc, code, used),
+        Outcome::Done(code) => done_line(alloc, code, output, used),
         Outcome::Trap(trap) => trap_line(alloc, trap, used),
         Outcome::FuelOut => String::from_str(alloc, "call fuel\n"),
         Outcome::Broken(kind) => broken_line(alloc, kind),
@@ -92,13 +99,18 @@ fn outcome_status(outcome: Outcome) -> Status
     }
 }
 
-/// What a call without output came to.
-pub fn ended(alloc: Global, outcome: Outcome, used: u64) -> Result<Report, AllocError>
+/// What a call came to, with its output and the fuel that it used.
+pub fn ended(
+    alloc: Global,
+    outcome: Outcome,
+    output: &[u8],
+    used: u64,
+) -> Result<Report, AllocError>
     ensures status { IfOk result (λ r. code_of r.status ≡ status_of outcome) }
-    ensures line { IfOk result (λ r. string_bytes r.line ≡ report.call_line outcome [] used) }
+    ensures line { IfOk result (λ r. string_bytes r.line ≡ report.call_line outcome output.now used) }
 {
     Ok(Report {
         status: outcome_status(outcome),
-        line: outcome_line(alloc, outcome, used)?,
+        line: outcome_line(alloc, outcome, output, used)?,
     })
 }

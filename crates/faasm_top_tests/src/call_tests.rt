@@ -1,6 +1,6 @@
-//! Calls of modules, and modules that no function may have.
+//! Calls of modules without host calls in `main`, and modules that no function may have.
 
-use crate::tests::{ANSWER, NOT_BUILT, TYPES, answered};
+use crate::tests::{ANSWER, TYPES, answered};
 use std::alloc::{AllocError, Global};
 use std::test::Fail;
 
@@ -8,11 +8,11 @@ const ONE_TYPE: &str = "0105016000017f";
 
 const TWO_TYPES: &str = "0108026000017f600000";
 
-const ONE_FUNCTION: &str = "03020100";
+pub const ONE_FUNCTION: &str = "03020100";
 
 const TWO_FUNCTIONS: &str = "0303020001";
 
-const ONE_PAGE: &str = "0503010001";
+pub const ONE_PAGE: &str = "0503010001";
 
 const MAIN: &str = "070801046d61696e0000";
 
@@ -177,22 +177,22 @@ const ROWS: [(&str, &[&str], &str, &str, u8); 18] = [
         3,
     ),
     (
-        "a host call",
+        "a host call in init",
         &[
-            ONE_TYPE,
+            TWO_TYPES,
             INPUT_SIZE,
-            ONE_FUNCTION,
-            "070801046d61696e0001",
-            RETURNS,
+            TWO_FUNCTIONS,
+            "070f02046d61696e000104696e69740002",
+            "0a0c020400412a0b050010001a0b",
         ],
         "10",
-        NOT_BUILT,
-        3,
+        "call broken host call\n",
+        1,
     ),
 ];
 
 /// The module of these sections, in hexadecimal digits.
-fn module(alloc: Global, sections: &[&str]) -> Result<Vec<u8>, AllocError> {
+pub fn module(alloc: Global, sections: &[&str]) -> Result<Vec<u8>, AllocError> {
     let mut bytes = Vec::from_slice(alloc, &ANSWER[..TYPES])?;
     for section in sections {
         match hex::decode(alloc, *section) {

@@ -3,6 +3,8 @@
 #![tactic(auto)]
 
 #[cfg(test)]
+mod call_host_tests;
+#[cfg(test)]
 mod call_tests;
 #[cfg(test)]
 mod check_tests;

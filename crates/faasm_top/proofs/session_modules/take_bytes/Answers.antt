@@ -1,4 +1,4 @@
-use Rattle.std.proofs.Common.{arith, sym}
+use Rattle.std.proofs.Common.{arith}
 use Rattle.std.specs.String.{string_bytes}
 use Rattle.faasm_top.specs.Sessions.{unusable}
 use Rattle.faasm_top.proofs.Sessions.{same_line}
