@@ -1,9 +1,11 @@
 -- The lemmas by subject.
+pub mod Chained
 pub mod Child
 pub mod Counting
 pub mod Counts
 pub mod Entries
 pub mod Finish
+pub mod Family
 pub mod Fronts
 pub mod Held
 pub mod Hosts

@@ -6,7 +6,7 @@ use Rattle.std.proofs.lemmas.Bool.{and_parts}
 use Rattle.std.proofs.lemmas.Option.{get_or_from_slice_get}
 use Rattle.faaslet_meaning.specs.declared.call.CallRecord.{CallRecord}
 use Rattle.faaslet_meaning.specs.Lists.{is_empty, first, places_from, places, passes_at}
-use Rattle.faaslet_meaning.specs.Records.{is_queued, is_child, child_of, queue, queued_calls}
+use Rattle.faaslet_meaning.specs.Records.{is_queued, queue, queued_calls}
 
 places_filter : {A : Type 0} (test : A → Bool) (n : ℕ) (xs : List A) → length (places_from n test xs) ≡ length (filter test xs)
 places_filter test n [] = refl
@@ -72,9 +72,6 @@ first_from test m (suc n) (x ∷ xs) e = by (test x) (λ f. first_from test (m +
 
 at_first : {A : Type 0} (test : A → Bool) (xs : List A) (n : ℕ) → first (places test xs) ≡ Some n → passes_at test xs n ≡ true
 at_first test xs n e = first_from test 0 n xs (e ∙ ap (λ k. Some k) (let z : n ≡ 0 + n = omega arith in z))
-
-pub child_there : (records : List CallRecord) (parent child n : ℕ) → child_of records parent child ≡ Some n → passes_at (is_child parent child) records n ≡ true
-child_there records parent child n e = at_first (is_child parent child) records n e
 
 pub first_queued : (records : List CallRecord) (n : ℕ) → first (queued_calls records) ≡ Some n → passes_at (λ r. is_queued r.state) records n ≡ true
 first_queued records n e = at_first (λ r. is_queued r.state) records n e

@@ -1,6 +1,7 @@
 -- A Submit that adds a child, and one that is refused, are those of the table.
-use Rattle.std.proofs.Common.{◌≡◌, ℕ, ◌+◌, ◌++◌, ◌∷◌, List, [], true, false, cond, Some, None, length, slice_get, sym, ap, ◌∙◌}
+use Rattle.std.proofs.Common.{◌≡◌, ℕ, ◌+◌, ◌<◌, ◌≤◌, ◌++◌, ◌∷◌, List, [], true, false, cond, Some, None, length, slice_get, sym, ap, ◌∙◌}
 use Rattle.std.specs.Prelude.{nat_lt, nat_le, ◌&&◌, if◌then◌else◌}
+use Rattle.std.proofs.lemmas.Bool.{and_parts, ltb-true, leb-true}
 use Rattle.faaslet_meaning.specs.declared.call.CallRecord.{CallRecord}
 use Rattle.faaslet_meaning.specs.Channels.{Reply}
 use Rattle.faaslet_meaning.specs.Lists.{passes_at, changed}
@@ -47,12 +48,23 @@ module _ (t : Table) (p : Parent) (parent function : ℕ) (input : List ℕ) (of
         reply_so = λ m. sym (ap (λ o. elim o [ None ↦ Reply.done | Some r ↦ if has_room t r function input then Reply.child r.children else Reply.chain_full ]) parent_there ∙ ap (λ b. cond b (Reply.child of.of.children) Reply.chain_full) room);
       }
 
-  -- the limits of the definition, by what the code counted
-  pub room_so : (calls bytes size room : ℕ) → calls ≡ length (calls_of t.records p.request) → bytes ≡ bytes_of t.records p.request → size ≡ length input → room ≡ (callable t function).room
-      → (nat_lt calls call_limit && nat_le (bytes + (size + room)) byte_limit && nat_lt p.depth depth_limit) ≡ has_room t of.of function input
-  room_so calls bytes size room a b c d =
-      ap (λ n. nat_lt n call_limit && nat_le (bytes + (size + room)) byte_limit && nat_lt p.depth depth_limit) (a ∙ ap (λ q. length (calls_of t.records q)) of.request_so)
-      ∙ ap (λ n. nat_lt (length (calls_of t.records of.of.request)) call_limit && nat_le (n + (size + room)) byte_limit && nat_lt p.depth depth_limit) (b ∙ ap (bytes_of t.records) of.request_so)
-      ∙ ap (λ n. nat_lt (length (calls_of t.records of.of.request)) call_limit && nat_le (bytes_of t.records of.of.request + (n + room)) byte_limit && nat_lt p.depth depth_limit) c
-      ∙ ap (λ n. nat_lt (length (calls_of t.records of.of.request)) call_limit && nat_le (bytes_of t.records of.of.request + (length input + n)) byte_limit && nat_lt p.depth depth_limit) d
+  -- the limits of the definition, by what is kept of the request and the bytes of the child
+  pub room_so : (calls bytes more : ℕ) → calls ≡ length (calls_of t.records p.request) → bytes ≡ bytes_of t.records p.request → more ≡ length input + (callable t function).room
+      → (nat_lt calls call_limit && nat_le (bytes + more) byte_limit && nat_lt p.depth depth_limit) ≡ has_room t of.of function input
+  room_so calls bytes more a b c =
+      ap (λ n. nat_lt n call_limit && nat_le (bytes + more) byte_limit && nat_lt p.depth depth_limit) (a ∙ ap (λ q. length (calls_of t.records q)) of.request_so)
+      ∙ ap (λ n. nat_lt (length (calls_of t.records of.of.request)) call_limit && nat_le (n + more) byte_limit && nat_lt p.depth depth_limit) (b ∙ ap (bytes_of t.records) of.request_so)
+      ∙ ap (λ n. nat_lt (length (calls_of t.records of.of.request)) call_limit && nat_le (bytes_of t.records of.of.request + n) byte_limit && nat_lt p.depth depth_limit) c
       ∙ ap (λ n. nat_lt (length (calls_of t.records of.of.request)) call_limit && nat_le (bytes_of t.records of.of.request + (length input + (callable t function).room)) byte_limit && nat_lt n depth_limit) of.depth_so
+
+-- what the limits allow, where they have room
+pub record Allows (calls bytes depth : ℕ) : Type 0 where
+  pub calls_few : calls < call_limit
+  pub bytes_few : bytes ≤ byte_limit
+  pub not_deep : depth < depth_limit
+
+pub allows : (calls bytes depth : ℕ) → (nat_lt calls call_limit && nat_le bytes byte_limit && nat_lt depth depth_limit) ≡ true → Allows calls bytes depth
+allows calls bytes depth e =
+    let both = and_parts (nat_lt calls call_limit && nat_le bytes byte_limit) (nat_lt depth depth_limit) e in
+    let front = and_parts (nat_lt calls call_limit) (nat_le bytes byte_limit) both.0 in
+    record { calls_few = ltb-true calls call_limit front.0; bytes_few = leb-true bytes byte_limit front.1; not_deep = ltb-true depth depth_limit both.1 }

@@ -1,3 +1,5 @@
+pub mod Chains
+pub mod Children
 pub mod Did
 pub mod Handed
 pub mod Heads

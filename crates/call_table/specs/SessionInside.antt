@@ -1,6 +1,8 @@
 -- The model of `CallTable`. This project's own.
 use Rattle.std.specs.Prelude.{◌≡◌, ◌<◌, ◌^◌, List, length}
 use Rattle.faaslet_meaning.specs.declared.call.CallRecord.{CallRecord}
+use Rattle.call_table.specs.Chains.{ChainsFit}
+use Rattle.call_table.specs.Children.{ChildrenFit}
 use Rattle.call_table.specs.Heads.{HeadsFit}
 use Rattle.call_table.specs.Loads.{LoadsFit}
 use Rattle.call_table.specs.Progress.{ProgressFits}
@@ -23,4 +25,6 @@ pub record IsSession (t : Inside) : Type 0 where
   pub requests : t.requests < 2 ^ 31
   pub indexed : Indexed t.store.records t.progress t.heads
   pub loads : LoadsFit t.store.hosts t.store.records t.loads
+  pub chains : ChainsFit t.store.records t.chains
+  pub children : ChildrenFit t.store.records t.children
   pub hosts : length t.heads.at.items ≡ t.store.hosts

@@ -1,6 +1,8 @@
 //! The records of all calls of a session: who is queued, taken and finished.
 #![tactic(auto)]
 
+mod chains;
+mod children;
 mod heads;
 mod jobs;
 mod kept;

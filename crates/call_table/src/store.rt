@@ -7,7 +7,7 @@ ghost use Rattle.faaslet_meaning.specs.Records as said;
 ghost use Rattle.faaslet_meaning.specs.Table as table;
 ghost use Rattle.call_table.specs.Did.{Did};
 ghost use Rattle.call_table.specs.Handed.{Handed};
-ghost use Rattle.call_table.specs.Held.{piece_limit, IsHeld, IsSmall};
+ghost use Rattle.call_table.specs.Held.{piece_limit, IsHeld};
 ghost use Rattle.call_table.specs.Looked.{Looked};
 ghost use Rattle.call_table.specs.Makers.{is_on};
 ghost use Rattle.call_table.specs.Parent.{IsParent, IsChildOf};
@@ -91,7 +91,8 @@ impl Store {
     /// What is known of a function.
     pub(crate) fn callable(&self, function: u32) -> Callable
         requires { function < length self.now.functions }
-        ensures { result ≡ table.callable self.now function }
+        ensures known { result ≡ table.callable self.now function }
+        ensures room { result.room ≤ piece_limit }
     {
         self.functions[function as usize]
     }
@@ -99,7 +100,6 @@ impl Store {
     pub(crate) fn records(&self) -> &[CallRecord]
         ensures all { result.now ≡ self.now.records }
         ensures few { length result.now < 2 ^ 31 }
-        ensures small { All IsSmall result.now }
     {
         &self.records
     }
@@ -128,16 +128,6 @@ impl Store {
         match self.records.get(call as usize) {
             Some(known) => records::is_on(&known.state, bench),
             None => false,
-        }
-    }
-
-    /// The number of the call that is this child of its parent.
-    pub(crate) fn child_of(&self, call: u32, child: u32) -> Option<u32>
-        ensures { result ≡ said.child_of self.now.records call child }
-    {
-        match records::child_of(&self.records, call, child) {
-            Some(found) => Some(found as u32),
-            None => None,
         }
     }
 

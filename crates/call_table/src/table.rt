@@ -1,6 +1,6 @@
 //! The call table.
 
-ghost use Rattle.std.specs.Prelude.{◌≡◌, ◌<◌, ◌≤◌, ◌^◌, ◌++◌, ◌&&◌, ◌==◌, All, IsTrue, IfOk, IfErr, OnOk, OnErr, Some, false, length, nat_le, nat_lt, slice_get};
+ghost use Rattle.std.specs.Prelude.{◌≡◌, ◌+◌, ◌<◌, ◌≤◌, ◌^◌, ◌++◌, ◌&&◌, ◌==◌, All, IsTrue, IfOk, IfErr, OnOk, OnErr, Some, false, length, nat_le, nat_lt, slice_get};
 ghost use Rattle.faaslet_meaning.specs.Channels.{Reply as SpecReply};
 ghost use Rattle.faaslet_meaning.specs.Lists.{first, passes_at};
 ghost use Rattle.faaslet_meaning.specs.Records as said;
@@ -15,11 +15,12 @@ ghost use Rattle.call_table.specs.Parent.{IsParent, IsChildOf};
 ghost use Rattle.call_table.specs.Refused.{Refused};
 ghost use Rattle.call_table.specs.Session.{empty_session, unfinished};
 
+use crate::chains::Chains;
+use crate::children::Children;
 use crate::heads::Heads;
 use crate::jobs::{Job, Next, SubmitFault, Unfinished};
 use crate::loads::Loads;
 use crate::progress::Progress;
-use crate::records;
 use crate::store::{Parent, Store};
 use faaslet_meaning::{CallRecord, Callable, Outcome, Reply};
 use std::alloc::{AllocError, Global};
@@ -41,6 +42,8 @@ pub struct CallTable {
     progress: Progress,
     heads: Heads,
     loads: Loads,
+    chains: Chains,
+    children: Children,
     workers: u32,
     requests: u32,
 }
@@ -78,6 +81,8 @@ impl CallTable {
             progress: Progress::new(),
             heads,
             loads: Loads::new(alloc, hosts)?,
+            chains: Chains::new(alloc),
+            children: Children::new(alloc),
             workers,
             requests,
         })
@@ -150,7 +155,7 @@ impl CallTable {
     pub fn child_of(&self, call: u32, child: u32) -> Option<u32>
         ensures { result ≡ said.child_of self.now.table.records call child }
     {
-        self.store.child_of(call, child)
+        self.children.find(call, child)
     }
 
     /// The record of a call.
@@ -177,13 +182,18 @@ impl CallTable {
     {
         let placed = self.place(function, host);
         let call = self.store.calls();
+        let bytes = self.bytes(function, input);
         let queued = self
             .store
             .queued_record(function, host, self.progress.came, placed, input)?;
         self.loads.reserve(call + 1 - self.progress.taken)?;
+        self.chains.reserve()?;
+        self.children.reserve()?;
         self.store.push(queued)?;
         self.progress.add_request();
         self.loads.add(placed);
+        self.chains.start(bytes);
+        self.children.add_call();
         Ok(call)
     }
 
@@ -196,21 +206,16 @@ impl CallTable {
         ensures refused { IfErr result (λ fault. Refused self.old parent function input.now self.new fault) }
     {
         let p = self.store.parent_of(parent);
-        let calls = records::calls_of(self.store.records(), p.request) as u32;
-        let bytes = records::bytes_of(self.store.records(), p.request);
-        let room = self.store.callable(function).room;
-        if !has_room(
-            calls,
-            bytes + (input.len() as u64 + u64::from(room)),
-            p.depth,
-        ) {
+        let chain = self.chains.of(p.request);
+        let bytes = self.bytes(function, input);
+        if !has_room(chain.calls, chain.bytes + bytes, p.depth) {
             return Err(SubmitFault::ChainFull {
-                calls,
-                bytes,
+                calls: chain.calls,
+                bytes: chain.bytes,
                 depth: p.depth,
             });
         }
-        match self.add_child(p, function, input) {
+        match self.add_child(p, function, input, bytes) {
             Ok(()) => Ok(p.child),
             Err(_) => Err(SubmitFault::Want),
         }
@@ -273,10 +278,29 @@ impl CallTable {
         self.loads.place(function, from)
     }
 
-    /// Adds a child for which the limits have room.
-    fn add_child(&mut self, p: Parent, function: u32, input: &[u8]) -> Result<(), AllocError>
+    /// The bytes that a call of the function takes of its request's.
+    fn bytes(&self, function: u32, input: &[u8]) -> u64
+        requires function { function < length self.now.table.functions }
+        requires input { length input.now ≤ piece_limit }
+        ensures sum { result ≡ length input.now + (table.callable self.now.table function).room }
+        ensures few { result ≤ 131072 }
+    {
+        input.len() as u64 + u64::from(self.store.callable(function).room)
+    }
+
+    /// Adds a child for which the limits have room, and which takes so many bytes.
+    fn add_child(
+        &mut self,
+        p: Parent,
+        function: u32,
+        input: &[u8],
+        bytes: u64,
+    ) -> Result<(), AllocError>
         requires parent { IsParent self.old.table p }
         requires depth { p.depth < 8 }
+        requires bytes { bytes ≡ length input.now + (table.callable self.old.table function).room }
+        requires calls { length (said.calls_of self.old.table.records p.request) < table.call_limit }
+        requires room { said.bytes_of self.old.table.records p.request + bytes ≤ table.byte_limit }
         requires function { function < length self.old.table.functions }
         requires input { length input.now ≤ piece_limit }
         ensures ok { OnOk result (IsChildOf self.old.table p function input.now self.new.table) }
@@ -286,9 +310,14 @@ impl CallTable {
         let placed = self.place(function, p.host);
         let call = self.store.calls();
         self.loads.reserve(call + 1 - self.progress.taken)?;
+        self.children.reserve()?;
+        self.children.reserve_child(p.call)?;
         self.store.push_child(p, function, placed, input)?;
         self.progress.add_child();
         self.loads.add(placed);
+        self.chains.add(p.request, bytes);
+        self.children.add_child(p.call, call);
+        self.children.add_call();
         Ok(())
     }
 

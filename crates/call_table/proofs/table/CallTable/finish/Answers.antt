@@ -9,7 +9,11 @@ use Rattle.call_table.specs.Session.{SessionTable}
 use Rattle.call_table.specs.SessionInside.{session_in, Indexed}
 use Rattle.call_table.specs.declared.progress.Progress.{Progress}
 use Rattle.call_table.proofs.Entries.{made}
+use Rattle.call_table.specs.Chains.{ChainsFit}
+use Rattle.call_table.specs.Children.{ChildrenFit}
 use Rattle.call_table.specs.Loads.{LoadsFit}
+use Rattle.call_table.proofs.Chained.{chains_finish}
+use Rattle.call_table.proofs.Family.{family_finish}
 use Rattle.call_table.proofs.Loaded.{loads_finish}
 use Rattle.call_table.proofs.Index.{one_open, finished_so}
 use Rattle.call_table.proofs.table.CallTable.finish.Goals as goal
@@ -41,5 +45,9 @@ invariant_of-self c =
       indexed = subst (λ (u : Table). Indexed u.records q c.self.inside.heads) after fits;
       loads = subst (λ (u : Table). LoadsFit u.hosts u.records c.self.inside.loads) after
           (loads_finish t c.self.inside.loads c.args.call c.args.outcome c.args.used c.args.output.now c.args.counts.now c.self.invariant.loads opened);
+      chains = subst (λ (u : Table). ChainsFit u.records c.self.inside.chains) after
+          (chains_finish t c.self.inside.chains c.args.call c.args.outcome c.args.used c.args.output.now c.args.counts.now c.self.invariant.chains opened);
+      children = subst (λ (u : Table). ChildrenFit u.records c.self.inside.children) after
+          (family_finish t c.self.inside.children c.args.call c.args.outcome c.args.used c.args.output.now c.args.counts.now c.self.invariant.children opened);
       hosts = subst (λ (u : Table). length c.self.inside.heads.at.items ≡ u.hosts) after c.self.invariant.hosts;
     }

@@ -8,7 +8,11 @@ use Rattle.faaslet_meaning.specs.Table.{Table}
 use Rattle.call_table.specs.Session.{SessionTable}
 use Rattle.call_table.specs.SessionInside.{Indexed}
 use Rattle.call_table.specs.declared.progress.Progress.{Progress}
+use Rattle.call_table.specs.Chains.{ChainsFit}
+use Rattle.call_table.specs.Children.{ChildrenFit}
 use Rattle.call_table.specs.Loads.{LoadsFit}
+use Rattle.call_table.proofs.Chained.{chains_take}
+use Rattle.call_table.proofs.Family.{family_take}
 use Rattle.call_table.proofs.Loaded.{loads_take, one_room}
 use Rattle.call_table.proofs.Places.{passes_there}
 use Rattle.call_table.proofs.Index.{small, taken_so}
@@ -33,6 +37,8 @@ invariant_of-self c =
       loads = subst (λ (u : Table). LoadsFit u.hosts u.records c.start.new.self) (sym c.take-job.ensures.taken)
           (loads_take t c.self.inside.loads c.start.new.self c.args.call c.args.host c.args.bench c.record_of-known.result.now.placed c.take-job.result.function c.record_of-known.result.now c.self.invariant.loads c.record_of-known.ensures.there queued low refl function
           c.start.ensures.queued c.start.ensures.warm c.start.ensures.room);
+      chains = subst (λ (u : Table). ChainsFit u.records c.self.inside.chains) (sym c.take-job.ensures.taken) (chains_take t c.self.inside.chains c.args.call c.args.host c.args.bench c.self.invariant.chains queued);
+      children = subst (λ (u : Table). ChildrenFit u.records c.self.inside.children) (sym c.take-job.ensures.taken) (family_take t c.self.inside.children c.args.call c.args.host c.args.bench c.self.invariant.children queued);
       hosts = subst (λ (u : Table). length c.self.inside.heads.at.items ≡ u.hosts) (sym c.take-job.ensures.taken) c.self.invariant.hosts;
     }
 
