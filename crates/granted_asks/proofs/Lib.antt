@@ -1,0 +1,4 @@
+pub mod ShortReads
+pub mod Granting
+pub mod Within
+pub mod Starts

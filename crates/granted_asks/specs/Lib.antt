@@ -1,0 +1,2 @@
+pub mod LiesIn
+pub mod CanStart
