@@ -32,29 +32,38 @@ pub record GoesOn (f : Faaslet) (j : Invocation) (start : State) (transcript : T
   pub at : StandsAt f j start transcript progress
   pub ready : IsReady f j progress
 
--- the call stands at a question, which is this one, with its bytes in the scratch
+-- what is told at a stage
+abbrev pub turn_of : Stage → Option Turn
+turn_of stages.Runs = None
+turn_of (stages.Asks work a) = Some (turns.Asks a)
+turn_of (stages.Over o) = Some (turns.Ended o)
+
+-- The call stands at a question, which is this one, with its bytes in the scratch. It can be told again, since the machine keeps
+-- them too.
 pub record AsksThis (f : Faaslet) (j : Invocation) (start : State) (transcript : Transcript) (a : Ask) : Type 0 where
   pub state : State
   pub question : Question
   pub at : StandsAt f j start transcript (asks state question)
   pub waits : IsAsking f.stage
   pub is : question_of_ask j a f.scratch ≡ Some question
+  pub told : turn_of f.stage ≡ Some (turns.Asks a)
+  pub kept : f.machine.scratch ≡ f.scratch
+  pub ready : IsReady f j (asks state question)
 
--- the call is over, with this outcome
+-- the call is over, with this outcome, which can be told again
 pub record EndsThus (f : Faaslet) (j : Invocation) (start : State) (transcript : Transcript) (o : Outcome) : Type 0 where
   pub state : State
   pub at : StandsAt f j start transcript (over state o)
+  pub told : turn_of f.stage ≡ Some (turns.Ended o)
 
 -- what it tells is where the call has come to
 abbrev pub Tells : Turn → Faaslet → Invocation → State → Transcript → Type 0
 Tells (turns.Asks a) f j start transcript = AsksThis f j start transcript a
 Tells (turns.Ended o) f j start transcript = EndsThus f j start transcript o
 
--- what is told at a stage
-abbrev pub turn_of : Stage → Option Turn
-turn_of stages.Runs = None
-turn_of (stages.Asks work a) = Some (turns.Asks a)
-turn_of (stages.Over o) = Some (turns.Ended o)
+-- where it was, but for what was written to the scratch since: the bytes of the machine's are there again
+abbrev pub IsToldAgain : Faaslet → Faaslet → Type 0
+IsToldAgain f new = new ≡ record f { scratch = f.machine.scratch }
 
 -- how often it may be run on, where it is to run on: each time it spends fuel
 abbrev pub left_at : Stage → ℕ → ℕ

@@ -17,7 +17,7 @@ ghost use Rattle.faaslet_run.specs.Begun.{IsBegun};
 ghost use Rattle.faaslet_run.specs.Counted.{counted};
 ghost use Rattle.faaslet_run.specs.Lending.{LendsInput, LendsScratch};
 ghost use Rattle.faaslet_run.specs.Places.{IsAsking, StandsAt, state_of};
-ghost use Rattle.faaslet_run.specs.Turns.{GoesOn, HasRooms, IsReady, SameRoom, Tells, runs_left, turn_of};
+ghost use Rattle.faaslet_run.specs.Turns.{GoesOn, HasRooms, IsReady, IsToldAgain, SameRoom, Tells, runs_left, turn_of};
 
 use crate::buffer::Buffer;
 use crate::grants::writable;
@@ -245,11 +245,13 @@ impl<'s> Faaslet<'s> {
         }
     }
 
-    /// Goes on to the next question or to the end, and tells it. Where it has told that already it tells it again.
+    /// Goes on to the next question or to the end, and tells it. Where it has told that already it tells it again, as it was
+    /// told: whatever was written to the scratch since, the bytes of the question are there again.
     pub fn next(&mut self) -> Turn
         requires { (j : Invocation) × (start : State) × (transcript : Transcript) × (p : Progress) × StandsAt self.old j start transcript p }
         ensures tells { (j : Invocation) (start : State) (transcript : Transcript) (p : Progress)
             → StandsAt self.old j start transcript p → IsReady self.old j p → Tells result self.new j start transcript }
+        ensures again { (turn : Turn) → turn_of self.old.stage ≡ Some turn → (result ≡ turn) × IsToldAgain self.old self.new }
         ensures rooms { SameRoom self.old self.new }
     {
         'turns: while self.runs() {

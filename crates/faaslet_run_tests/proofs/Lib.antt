@@ -1,0 +1,4 @@
+mod Knowing
+mod Replies
+mod Answering
+mod Beginning
