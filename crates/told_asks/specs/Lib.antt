@@ -1,0 +1,4 @@
+pub mod Counts
+pub mod Knows
+pub mod Leaves
+pub mod Seen
