@@ -1,3 +1,5 @@
 mod Folds
+mod Fronts
 mod Hexes
-mod Worlds
+mod Ways
+pub mod Worlds

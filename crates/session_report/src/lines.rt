@@ -62,7 +62,12 @@ fn push_channel<S: Reported>(
     }
 }
 
-fn push_obstacle<S: Reported>(out: &mut String, session: &S, by: Obstacle) -> Result<(), AllocError>
+fn push_obstacle<S: Reported>(
+    alloc: Global,
+    out: &mut String,
+    session: &S,
+    by: Obstacle,
+) -> Result<(), AllocError>
     ensures { Grows result out.old out.new
         (obstacle_text (S.plan session.now) (S.records session.now) (obstacle_of by)) }
 {
@@ -70,17 +75,18 @@ fn push_obstacle<S: Reported>(out: &mut String, session: &S, by: Obstacle) -> Re
         Obstacle::Held { channel, holder } => {
             push_channel(out, session, channel)?;
             out.push_str(" holder ")?;
-            push_path(out, session, holder)
+            push_path(alloc, out, session, holder)
         }
         Obstacle::Unfinished { child } => {
             out.push_str("child ")?;
-            push_path(out, session, child)
+            push_path(alloc, out, session, child)
         }
     }
 }
 
 /// The line of a call that is kept from its next question.
 pub(crate) fn push_blocked<S: Reported>(
+    alloc: Global,
     out: &mut String,
     session: &S,
     blocked: Blocked,
@@ -88,9 +94,9 @@ pub(crate) fn push_blocked<S: Reported>(
     ensures { Grows result out.old out.new (blocked_line (S.plan session.now) (S.records session.now) blocked) }
 {
     out.push_str("blocked ")?;
-    push_path(out, session, blocked.call)?;
+    push_path(alloc, out, session, blocked.call)?;
     out.push_str(" ")?;
-    push_obstacle(out, session, blocked.by)?;
+    push_obstacle(alloc, out, session, blocked.by)?;
     out.push_str("\n")
 }
 

@@ -25,6 +25,7 @@ fn push_requests<S: Reported>(
 }
 
 fn push_all_blocked<S: Reported>(
+    alloc: Global,
     out: &mut String,
     session: &S,
     blocked: &[Blocked],
@@ -33,7 +34,7 @@ fn push_all_blocked<S: Reported>(
         (blocked_lines (S.plan session.now) (S.records session.now) blocked.now) }
 {
     for each in blocked {
-        push_blocked(out, session, *each)?;
+        push_blocked(alloc, out, session, *each)?;
     }
     Ok(())
 }
@@ -58,7 +59,7 @@ pub fn report<S: Reported>(
 {
     let mut out = String::new(alloc);
     push_requests(alloc, &mut out, session)?;
-    push_all_blocked(&mut out, session, blocked)?;
+    push_all_blocked(alloc, &mut out, session, blocked)?;
     push_values(alloc, &mut out, session)?;
     Ok(Items::of(out.into_bytes()))
 }

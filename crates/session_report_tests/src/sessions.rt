@@ -1,12 +1,14 @@
 //! The lines of sessions, as worked out by hand.
 
 use crate::sample::{Child, Far, Sample, Value, records};
+use fa_outside::{FailSink, MemSink};
 use faaslet_meaning::{Broken, Channel, Outcome, Trap};
-use session_report::{Blocked, Obstacle, report};
+use session_report::{Blocked, Obstacle, WriteFault, report, write_report};
 use std::alloc::{AllocError, Global};
 use std::test::Fail;
 
 /// A session with its blocked calls, and its lines. Calls are numbered requests first.
+#[derive(Clone, Copy)]
 struct Row<'s> {
     labels: &'s [&'s str],
     keys: &'s [Value<'s>],
@@ -154,25 +156,60 @@ const FURTHER_DOWN: Row<'static> = Row {
 blocked two.12 child two.12.0\nblocked two.12.0 global k holder one\nstate k 00\n",
 };
 
-/// Whether these are the lines of a session.
-fn has_lines(alloc: Global, row: &Row<'_>) -> Result<bool, AllocError> {
+/// The session of a row.
+fn sample<'s>(alloc: Global, row: &Row<'s>) -> Result<Option<Sample<'s>>, AllocError> {
     let calls = records(alloc, row.requests, row.children)?;
     if row.labels.len() > 1_024 || row.keys.len() > 64 || calls.len() > 1_048_576 {
-        return Ok(false);
+        return Ok(None);
     }
-    let sample = Sample {
+    Ok(Some(Sample {
         labels: row.labels,
         keys: row.keys,
         records: calls,
+    }))
+}
+
+/// Whether these are the lines of a session, put together and written one after the other.
+fn has_lines(alloc: Global, row: &Row<'_>) -> Result<bool, AllocError> {
+    let Some(sample) = sample(alloc, row)? else {
+        return Ok(false);
     };
     let told = report(alloc, &sample, row.blocked)?;
-    Ok(told.as_slice() == row.lines.as_bytes())
+    let mut sink = MemSink::with_room(alloc, row.lines.len())?;
+    let written = write_report(alloc, &sample, row.blocked, &mut sink);
+    Ok(
+        told.as_slice() == row.lines.as_bytes()
+            && written == Ok(())
+            && sink.bytes() == row.lines.as_bytes(),
+    )
 }
 
 #[test]
 fn each_session_has_its_lines(rt: HostRuntime) -> Result<(), Fail> {
     for row in &[NOTHING, HELD_BACK, EACH_WAY, LOCKED_OUT, FURTHER_DOWN] {
         assert!(rt; has_lines(rt.alloc(), row)?);
+    }
+    Ok(())
+}
+
+/// What was written where the sink fails at its write of this number.
+fn fails_at(alloc: Global, call: u32, front: &str) -> Result<bool, AllocError> {
+    let Some(sample) = sample(alloc, &LOCKED_OUT)? else {
+        return Ok(false);
+    };
+    let mut fails = Vec::new(alloc);
+    fails.push(call)?;
+    let mut sink = FailSink::new(MemSink::with_room(alloc, 1_000)?, fails);
+    let written = write_report(alloc, &sample, LOCKED_OUT.blocked, &mut sink);
+    Ok(written == Err(WriteFault::Failed) && sink.inner().bytes() == front.as_bytes())
+}
+
+#[test]
+fn each_line_is_one_write(rt: HostRuntime) -> Result<(), Fail> {
+    let first = "s done 84281096 used 8 output \n";
+    let blocked = "s done 84281096 used 8 output \nr stuck\nblocked r child r.0\n";
+    for (call, front) in [(0, ""), (1, first), (3, blocked)] {
+        assert!(rt; fails_at(rt.alloc(), call, front)?);
     }
     Ok(())
 }

@@ -1,5 +1,5 @@
 -- One more request is written.
-use Rattle.std.proofs.Common.{◌≡◌, ◌<◌, ◌++◌, length, arith}
+use Rattle.std.proofs.Common.{◌<◌, ◌++◌, length, arith}
 use Rattle.std.specs.String.{string_bytes}
 use Rattle.session_meaning.specs.SessionReport.{request_lines}
 use Rattle.session_report.proofs.Folds.{one_request, there}

@@ -1,7 +1,6 @@
 -- One more global value is written.
 use Rattle.std.proofs.Common.{◌≡◌, ◌<◌, ◌++◌, ℕ, List, [], Some, None, length, sym, ap, ◌∙◌, arith}
 use Rattle.std.specs.String.{string_bytes}
-use Rattle.session_meaning.specs.Plan.{Key}
 use Rattle.session_meaning.specs.SessionReport.{state_lines}
 use Rattle.session_report.proofs.Folds.{one_value, there}
 use Rattle.session_report.proofs.whole.push_values.Goals as goal
