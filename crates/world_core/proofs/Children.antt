@@ -49,7 +49,7 @@ first_place {A} test m (x ∷ xs) n e = by (test x) refl e (first_place test (m 
     by true h e go = let same : m ≡ n = some_same e in record { place = 0; is = omega (arith, same); item = x; here = refl; passes = h }
     by false h e go = let f = go e in let is = f.is in record { place = suc f.place; is = omega (arith, is); item = f.item; here = f.here; passes = f.passes }
 
-child_parts : (p n : ℕ) (r : CallRecord) → is_child p n r ≡ true → (r.parent ≡ Some p) × (r.child ≡ n)
+pub child_parts : (p n : ℕ) (r : CallRecord) → is_child p n r ≡ true → (r.parent ≡ Some p) × (r.child ≡ n)
 child_parts p n r h = by r.parent refl h
   where
     by : (o : Option ℕ) → r.parent ≡ o → ◌≡◌ {A = Bool} (elim o [ None ↦ false | Some q ↦ (q == p) && (r.child == n) ]) true → (r.parent ≡ Some p) × (r.child ≡ n)

@@ -12,7 +12,7 @@ use Rattle.session_meaning.specs.Schedule.{is_awaited, looked_at, looks_at, open
 use Rattle.session_meaning.specs.World.{World}
 
 -- where the question of a machine leads
-abbrev looks_by : World → ℕ → ℕ → Option (State × Question) → Bool
+abbrev pub looks_by : World → ℕ → ℕ → Option (State × Question) → Bool
 looks_by w call other a = elim a [ None ↦ false | Some a ↦ elim (looked_at a.1) [ None ↦ false | Some child ↦ elim (child_of w.table.records call child) [ None ↦ false | Some c ↦ c == other ] ] ]
 
 looks_there : (w : World) (call other : ℕ) (o : Open) (m : Machine) → open_at w call ≡ Some o → o.machine ≡ m → looks_at w call other ≡ looks_by w call other (asking m)

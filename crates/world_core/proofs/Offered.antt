@@ -128,18 +128,18 @@ takes_here plan w c n (suc m) e = by (is_queued_in w c && is_taken_next plan w c
     by false is f = ap₂ (λ a l. cond a (Take c n ∷ l) l) is f
 
 worker_so : (plan : Plan) (w : World) (f : Floor) → FloorOf plan w f → has_worker plan w ≡ has_worker_on f
-worker_so plan w f fo = ap₂ (λ a b. nat_lt a b) (sym (ap length fo.open_so) ∙ length_mapped seated f.open.items) (sym fo.workers)
+worker_so plan w f fo = ap₂ (λ a b. nat_lt a b) (sym (ap length fo.has.open_so) ∙ length_mapped seated f.open.items) (sym fo.has.workers)
 
 takes_so : (plan : Plan) (w : World) (f : Floor) → FloorOf plan w f → filter (stands plan w) (flat_map (takes_of w) (calls_of w)) ≡ takes_on f
 takes_so plan w f fo =
     let next = is_taken_next plan w in
     let worker = worker_so plan w f fo in
-    let same = filter_all_same (λ (q : Waiting). next q.call) (may_take (has_worker_on f)) f.queued.items (λ k d h. ap₂ (λ a b. a || b) (sym (fo.awaited k d h)) worker) in
-    let queued = in_range (λ (r : CallRecord). is_queued r.state) w.table.records ∙ sym fo.queued in
+    let same = filter_all_same (λ (q : Waiting). next q.call) (may_take (has_worker_on f)) f.queued.items (λ k d h. ap₂ (λ a b. a || b) (sym (fo.has.awaited k d h)) worker) in
+    let queued = in_range (λ (r : CallRecord). is_queued r.state) w.table.records ∙ sym fo.has.queued in
     let calls = filter_both (is_queued_in w) next (calls_of w) ∙ (ap (filter next) queued ∙ (filter_mapped next call_of f.queued.items ∙ ap (map call_of) same)) in
     filter_flat (stands plan w) (λ c. is_queued_in w c && next c) (takes_of w) (calls_of w) (λ c. takes_here plan w c 0 w.table.hosts (omega arith))
     ∙ (ap (flat_map (takes_of w)) calls ∙ (flat_mapped (takes_of w) call_of (filter (may_take (has_worker_on f)) f.queued.items)
-    ∙ ap (λ n. flat_map (λ (q : Waiting). takes_at n q.call) (filter (may_take (has_worker_on f)) f.queued.items)) (sym fo.hosts)))
+    ∙ ap (λ n. flat_map (λ (q : Waiting). takes_at n q.call) (filter (may_take (has_worker_on f)) f.queued.items)) (sym fo.has.hosts)))
 
 -- ---- Asks and Ends.
 
@@ -166,7 +166,7 @@ of_kind : (plan : Plan) (w : World) (f : Floor) (e : ℕ → Event) (p : Stand) 
 of_kind plan w f e p fo offer shut all =
     let may = λ (c : ℕ). is_none (why w (e c)) in
     let opened = λ (c : ℕ). passes_at is_some w.calls c in
-    let here = ap (λ n. filter opened (range_with_len 0 n)) (sym fo.calls) ∙ (in_range is_some w.calls ∙ sym fo.open_so) in
+    let here = ap (λ n. filter opened (range_with_len 0 n)) (sym fo.has.calls) ∙ (in_range is_some w.calls ∙ sym fo.has.open_so) in
     let mine = filter_same (λ c. stands plan w (e c)) may (calls_of w) (λ c. ap (λ b. may c && b) (offer c) ∙ and_true (may c)) in
     let seats = filter_same may (λ c. opened c && may c) (calls_of w) (within opened may shut) ∙ (filter_both opened may (calls_of w) ∙ (ap (filter may) here ∙ filter_mapped may seated f.open.items)) in
     let standing = sym (filter_all_same (has_stand p) (λ (s : Seat). may s.call) f.open.items all) in

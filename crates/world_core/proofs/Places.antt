@@ -148,7 +148,7 @@ lt_suc a b = by (nat_lt a b) refl
 abbrev pub among : ℕ → List ℕ → Bool
 among n xs = nat_lt (position_or_len (λ m. m == n) xs) (length xs)
 
-among_more : (n x : ℕ) (xs : List ℕ) → (x ≡ n → ⊥) → among n (x ∷ xs) ≡ among n xs
+pub among_more : (n x : ℕ) (xs : List ℕ) → (x ≡ n → ⊥) → among n (x ∷ xs) ≡ among n xs
 among_more n x xs ne = ap (λ b. nat_lt (cond (not b) (1 + position_or_len (λ m. m == n) xs) 0) (suc (length xs))) (ne_eqb x n ne) ∙ lt_suc (position_or_len (λ m. m == n) xs) (length xs)
 
 none_there : (n : ℕ) (xs : List ℕ) → AllAbove n xs → among n xs ≡ false

@@ -15,7 +15,7 @@ use Rattle.session_meaning.specs.Schedule.{open_calls}
 use Rattle.session_meaning.specs.World.{World}
 use Rattle.world_core.proofs.Places.{among, found_at}
 
-in_places : {A : Type 0} (test : A → Bool) (xs : List A) (n : ℕ) → among n (places test xs) ≡ passes_at test xs n
+pub in_places : {A : Type 0} (test : A → Bool) (xs : List A) (n : ℕ) → among n (places test xs) ≡ passes_at test xs n
 in_places test xs n = ap (λ m. among m (places test xs)) (sym (zero-add n)) ∙ found_at test 0 n xs
 
 by_record : (w : World) (call : ℕ) (P : Option CallRecord → Type 0) → P None → ((r : CallRecord) → slice_get w.table.records call ≡ Some r → P (Some r)) → P (slice_get w.table.records call)
@@ -49,7 +49,7 @@ there (x ∷ xs) (suc n) h = there xs n (omega (arith, h))
 take_there : (w : World) (call host : ℕ) (r : CallRecord) → slice_get w.table.records call ≡ Some r → why w (Take call host) ≡ why_take w r host
 take_there w call host r e = ap (λ o. elim o as (λ o. Option Why) [ None ↦ Some NoCall | Some r ↦ why_take w r host ]) e
 
-queued_so : (w : World) (call : ℕ) (r : CallRecord) → slice_get w.table.records call ≡ Some r → among call (queued_calls w.table.records) ≡ is_queued r.state
+pub queued_so : (w : World) (call : ℕ) (r : CallRecord) → slice_get w.table.records call ≡ Some r → among call (queued_calls w.table.records) ≡ is_queued r.state
 queued_so w call r e = in_places (λ r. is_queued r.state) w.table.records call ∙ ap (λ o. elim o as (λ o. Bool) [ None ↦ false | Some r ↦ is_queued r.state ]) e
 
 pub take_no_host : (w : World) (call host : ℕ) → call < length w.table.records → w.table.hosts ≤ host → why w (Take call host) ≡ Some NoHost
@@ -66,7 +66,7 @@ take_is w call host l h =
 
 -- ---- An Ask and an End.
 
-open_so : (w : World) (call : ℕ) → among call (open_calls w) ≡ is_some (open_at w call)
+pub open_so : (w : World) (call : ℕ) → among call (open_calls w) ≡ is_some (open_at w call)
 open_so w call = in_places is_some w.calls call ∙ by (slice_get w.calls call)
   where
     by : (o : Option (Option Open)) → ◌≡◌ {A = Bool} (elim o [ None ↦ false | Some x ↦ is_some x ]) (is_some (unwrap_or o None))

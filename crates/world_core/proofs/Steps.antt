@@ -57,7 +57,7 @@ module _ (plan : Plan) (w : World) (call host : ℕ) (r : CallRecord) (here : sl
   taken_so : CallRecord → CallRecord
   taken_so y = record y { state = Taken host call (takes w.table.records) }
 
-  not_open : open_at w call ≡ None
+  pub not_open : open_at w call ≡ None
   not_open = by (open_at w call) (opens.opens call ∙ ap (λ o. elim o as (λ o. Bool) [ None ↦ false | Some r ↦ is_open r.state ]) here ∙ ap is_open queued)
     where
       by : (o : Option Open) → is_some o ≡ false → o ≡ None

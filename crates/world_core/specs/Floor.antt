@@ -53,11 +53,15 @@ pub record StandsSo (w : World) (s : Seat) : Type 0 where
   pub has_ended : has_stand stand.Ended s ≡ is_none (why w (End s.call))
 
 -- these are the calls of a world that are queued and open
-pub record FloorOf (plan : Plan) (w : World) (f : Floor) : Type 0 where
+pub record FloorHas (plan : Plan) (w : World) (f : Floor) : Type 0 where
   pub hosts : f.hosts ≡ w.table.hosts
   pub workers : f.workers ≡ plan.hosts * plan.workers
   pub queued : map (λ (q : Waiting). q.call) f.queued.items ≡ queued_calls w.table.records
   pub awaited : All (λ (q : Waiting). q.awaited ≡ is_awaited w q.call) f.queued.items
   pub open_so : map (λ (s : Seat). s.call) f.open.items ≡ open_calls w
-  pub stands : All (StandsSo w) f.open.items
   pub calls : length w.calls ≡ length w.table.records
+
+-- and each open call stands on the floor as it stands in the world
+pub record FloorOf (plan : Plan) (w : World) (f : Floor) : Type 0 where
+  pub has : FloorHas plan w f
+  pub stands : All (StandsSo w) f.open.items

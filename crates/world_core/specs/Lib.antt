@@ -1,3 +1,13 @@
 pub mod Floor
 pub mod Opened
 pub mod Seating
+pub mod Played
+pub mod Living
+pub mod Starting
+pub mod Asking
+pub mod Whole
+pub mod Taking
+pub mod Ending
+pub mod Settled
+pub mod Blocked
+pub mod Tracing

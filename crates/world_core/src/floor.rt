@@ -1,6 +1,6 @@
 //! Which events a trace offers, read off the calls that are queued and those that are open.
 
-ghost use Rattle.std.specs.Prelude.{◌≡◌, ◌<◌, ◌≤◌, ◌^◌, Some, length, filter, slice_get};
+ghost use Rattle.std.specs.Prelude.{◌≡◌, ◌<◌, ◌≤◌, ◌^◌, [], Some, length, filter, slice_get};
 
 use session_meaning::Event;
 use std::alloc::{AllocError, Global};
@@ -45,6 +45,22 @@ pub struct Floor {
 
 impl Floor {
     ghost use Rattle.world_core.specs.Floor.{has_stand, has_worker_on, may_take, offered_on, takes_on};
+
+    /// A floor without a call.
+    pub fn new(alloc: Global, hosts: u32, workers: u32) -> Floor
+        requires { hosts ≤ 16 }
+        ensures hosts { result.hosts ≡ hosts }
+        ensures workers { result.workers ≡ workers }
+        ensures queued { result.queued.items ≡ [] }
+        ensures open_so { result.open.items ≡ [] }
+    {
+        Floor {
+            hosts,
+            workers,
+            queued: Vec::new(alloc),
+            open: Vec::new(alloc),
+        }
+    }
 
     /// How many events are offered.
     pub fn count(&self) -> u32

@@ -3,4 +3,4 @@ mod Moved
 mod Sizes
 mod Placed
 mod Serving
-mod Worlds
+pub mod Worlds

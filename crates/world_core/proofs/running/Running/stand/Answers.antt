@@ -1,0 +1,1 @@
+-- Free where nothing keeps it back, blocked where something does, ended where it asks nothing.
