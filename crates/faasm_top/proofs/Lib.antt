@@ -1,8 +1,8 @@
 pub mod Calls
 pub mod Decimals
 pub mod Dues
-pub mod HexLines
 pub mod Inputs
+pub mod Modules
 pub mod OneLine
 pub mod OneSession
 pub mod OwnMemory
@@ -10,4 +10,5 @@ pub mod Sessions
 pub mod Silent
 pub mod Snapshots
 pub mod Told
+pub mod Traces
 pub mod Unfits

@@ -1,6 +1,5 @@
--- Where the files are told and the shelf did not fail, one line is due.
+-- Where the files are told and the shelf did not fail, one text is due.
 use Rattle.std.proofs.Common.{◌≡◌, ℕ, List, Option, Some, None, refl, sym, ap, subst, ◌∙◌}
-use Rattle.std.specs.Prelude.{unwrap_or}
 use Rattle.fa_outside.specs.Faults.{Rose}
 use Rattle.fa_outside.specs.Files.{Files, file_named}
 use Rattle.faaslet_meaning.specs.declared.module.Module.{Module}
@@ -14,11 +13,13 @@ use Rattle.faaslet_meaning.specs.Words.{Command, call, check, trace, CommandOf, 
 use Rattle.faaslet_meaning.proofs.OneCommand.{one_command}
 use Rattle.faaslet_meaning.proofs.OneModule.{one_module}
 use Rattle.faaslet_meaning.proofs.One.{one_run}
-use Rattle.faasm_top.specs.Answers.{status_of, file_of, first_file_of, Reads, IsValid, ReadsFile, CallsModule, IsRun, IsUnfitCall, IsRefused, IsLater, IsTraced, IsDue, valid, ran, usage, refused, later, traced, unfit, read_fault}
+use Rattle.faasm_top.specs.Answers.{status_of, file_of, first_file_of, Reads, IsValid, ReadsFile, CallsModule, IsRun, IsUnfitCall, IsRefused, IsLater, IsSessionRefused, IsTraced, IsDue, valid, ran, traced, usage, refused, later, session_refused, unfit, read_fault}
 use Rattle.faasm_top.specs.ModuleFiles.{IsAccepted, IsRefusal}
 use Rattle.faasm_top.specs.Refusals.{unfit_line}
-use Rattle.faasm_top.specs.Sessions.{SessionComes}
-use Rattle.faasm_top.proofs.OneSession.{one_refusal, not_refused, same_content, one_session}
+use Rattle.faasm_top.specs.Sessions.{IsWholeSession, SessionComes}
+use Rattle.faasm_top.specs.Traced.{TracesTo}
+use Rattle.faasm_top.proofs.OneSession.{one_refusal, not_refused, same_content, one_session, one_whole}
+use Rattle.faasm_top.proofs.Traces.{one_trace}
 use Rattle.faasm_top.proofs.Unfits.{one_reason, not_unfit}
 
 -- ---- the words and their file
@@ -112,25 +113,43 @@ call_apart words told m input fuel p q = apart words told p.file q.file input p.
 call_words : (words : List (List ℕ)) (told : Option Files) (m : Module) (input : List ℕ) (fuel : ℕ) → NoSpelling CommandOf words → CallsModule words told m input fuel → ⊥
 call_words words told m input fuel none p = none.none (call p.file input fuel) p.reads.is_command
 
--- `trace` reads no file of a module, is built, and has one line
-traced_reads : (words : List (List ℕ)) (told : Option Files) (line : List ℕ) (c : Command) (bytes : List ℕ) → IsTraced words told line → Reads words told c bytes → ⊥
-traced_reads words told line c bytes p q =
-    let named : file_of (trace p.file p.seed) ≡ Some q.file = ap file_of (one_command words (trace p.file p.seed) c p.is_command q.is_command) ∙ q.is_named in
+-- ---- `trace` reads no file of a module, is built, and has one text
+
+module _ (words : List (List ℕ)) (file : List ℕ) (seed : ℕ) (is : CommandOf (trace file seed) words) where
+  trace_reads : (told : Option Files) (c : Command) (bytes : List ℕ) → Reads words told c bytes → ⊥
+  trace_reads told c bytes q =
+      let named : file_of (trace file seed) ≡ Some q.file = ap file_of (one_command words (trace file seed) c is q.is_command) ∙ q.is_named in
+      absurd cc
+
+  trace_later : IsLater words → ⊥
+  trace_later q =
+      let named : first_file_of (trace file seed) ≡ None = ap first_file_of (one_command words (trace file seed) q.command is q.is_command) ∙ q.no_file in
+      absurd cc
+
+same_trace : (f g : List ℕ) (m n : ℕ) → trace f m ≡ trace g n → (f ≡ g) × (m ≡ n)
+same_trace f g m n e = (cc, cc)
+
+-- what comes of one session
+same_answer : (words : List (List ℕ)) (files : Files) (f g : List ℕ) (m n : ℕ) (a b : Option (List ℕ)) → CommandOf (trace f m) words → CommandOf (trace g n) words → SessionComes (Some files) f a → SessionComes (Some files) g b → a ≡ b
+same_answer words files f g m n a b p q comes other =
+    let file = same_trace f g m n (one_command words (trace f m) (trace g n) p q) in
+    one_session files g a b (subst (λ h. SessionComes (Some files) h a) file.0 comes) other
+
+session_refused_once : (words : List (List ℕ)) (files : Files) (l m : List ℕ) → IsSessionRefused words (Some files) l → IsSessionRefused words (Some files) m → l ≡ m
+session_refused_once words files l m p q =
+    let same = same_answer words files p.file q.file p.seed q.seed (Some l) (Some m) p.is_command q.is_command p.comes q.comes in
+    cc
+
+traced_refused : (words : List (List ℕ)) (files : Files) (s : ℕ) (l m : List ℕ) → IsTraced words (Some files) s l → IsSessionRefused words (Some files) m → ⊥
+traced_refused words files s l m p q =
+    let same = same_answer words files p.names.file q.file p.seed q.seed None (Some m) p.names.is_command q.is_command p.names.session.comes q.comes in
     absurd cc
 
-traced_later : (words : List (List ℕ)) (told : Option Files) (line : List ℕ) → IsTraced words told line → IsLater words → ⊥
-traced_later words told line p q =
-    let named : first_file_of (trace p.file p.seed) ≡ None = ap first_file_of (one_command words (trace p.file p.seed) q.command p.is_command q.is_command) ∙ q.no_file in
-    absurd cc
-
-same_trace : (f g : List ℕ) (m n : ℕ) → trace f m ≡ trace g n → f ≡ g
-same_trace f g m n e = cc
-
-traced_once : (words : List (List ℕ)) (files : Files) (l m : List ℕ) → IsTraced words (Some files) l → IsTraced words (Some files) m → l ≡ m
-traced_once words files l m p q =
-    let file = same_trace p.file q.file p.seed q.seed (one_command words (trace p.file p.seed) (trace q.file q.seed) p.is_command q.is_command) in
-    let same = one_session files q.file p.answer q.answer (subst (λ f. SessionComes (Some files) f p.answer) file p.comes) q.comes in
-    p.is_line ∙ ap (λ a. unwrap_or a report.not_built) same ∙ sym q.is_line
+traced_once : (words : List (List ℕ)) (files : Files) (s t : ℕ) (l m : List ℕ) → IsTraced words (Some files) s l → IsTraced words (Some files) t m → (s ≡ t) × (l ≡ m)
+traced_once words files s t l m p q =
+    let named = same_trace p.names.file q.names.file p.seed q.seed (one_command words (trace p.names.file p.seed) (trace q.names.file q.seed) p.names.is_command q.names.is_command) in
+    let draft = one_whole files q.names.file p.draft q.draft (subst (λ f. IsWholeSession (Some files) f p.draft) named.0 p.names.session) q.names.session in
+    one_trace q.draft q.seed s t l m (subst (λ d. TracesTo d q.seed s l) draft (subst (λ n. TracesTo p.draft n s l) named.1 p.traces)) q.traces
 
 refused_once : (words : List (List ℕ)) (files : Files) (l m : List ℕ) → IsRefused words (Some files) l → IsRefused words (Some files) m → l ≡ m
 refused_once words files l m p q =
@@ -177,16 +196,31 @@ one_line words files before after s t l m calm (unfit p a) (usage q c d) = absur
 one_line words files before after s t l m calm (unfit p a) (refused q c) = absurd (call_split words files p.code p.input m p.fuel p.calls q)
 one_line words files before after s t l m calm (unfit p a) (later q c d) = absurd (call_built words (Some files) p.code p.input p.fuel p.calls q)
 one_line words files before after s t l m calm (unfit p a) (unfit q c) = (a ∙ sym c, unfit_once words files l m p q)
-one_line words files before after s t l m calm (valid p a b) (traced q c) = absurd (traced_reads words (Some files) m (check p.file) p.bytes q p.reads)
-one_line words files before after s t l m calm (ran p) (traced q c) = absurd (traced_reads words (Some files) m (call p.calls.file p.input p.fuel) p.calls.bytes q p.calls.reads)
-one_line words files before after s t l m calm (usage p a b) (traced q c) = absurd (p.none (trace q.file q.seed) q.is_command)
-one_line words files before after s t l m calm (refused p a) (traced q c) = absurd (traced_reads words (Some files) m p.command p.bytes q p.reads)
-one_line words files before after s t l m calm (later p a b) (traced q c) = absurd (traced_later words (Some files) m q p)
-one_line words files before after s t l m calm (unfit p a) (traced q c) = absurd (traced_reads words (Some files) m (call p.calls.file p.input p.fuel) p.calls.bytes q p.calls.reads)
-one_line words files before after s t l m calm (traced p a) (valid q c d) = absurd (traced_reads words (Some files) l (check q.file) q.bytes p q.reads)
-one_line words files before after s t l m calm (traced p a) (ran q) = absurd (traced_reads words (Some files) l (call q.calls.file q.input q.fuel) q.calls.bytes p q.calls.reads)
-one_line words files before after s t l m calm (traced p a) (usage q c d) = absurd (q.none (trace p.file p.seed) p.is_command)
-one_line words files before after s t l m calm (traced p a) (refused q c) = absurd (traced_reads words (Some files) l q.command q.bytes p q.reads)
-one_line words files before after s t l m calm (traced p a) (later q c d) = absurd (traced_later words (Some files) l p q)
-one_line words files before after s t l m calm (traced p a) (unfit q c) = absurd (traced_reads words (Some files) l (call q.calls.file q.input q.fuel) q.calls.bytes p q.calls.reads)
-one_line words files before after s t l m calm (traced p a) (traced q c) = (a ∙ sym c, traced_once words files l m p q)
+one_line words files before after s t l m calm (valid p a b) (session_refused q c) = absurd (trace_reads words q.file q.seed q.is_command (Some files) (check p.file) p.bytes p.reads)
+one_line words files before after s t l m calm (session_refused p a) (valid q c d) = absurd (trace_reads words p.file p.seed p.is_command (Some files) (check q.file) q.bytes q.reads)
+one_line words files before after s t l m calm (ran p) (session_refused q c) = absurd (trace_reads words q.file q.seed q.is_command (Some files) (call p.calls.file p.input p.fuel) p.calls.bytes p.calls.reads)
+one_line words files before after s t l m calm (session_refused p a) (ran q) = absurd (trace_reads words p.file p.seed p.is_command (Some files) (call q.calls.file q.input q.fuel) q.calls.bytes q.calls.reads)
+one_line words files before after s t l m calm (usage p a b) (session_refused q c) = absurd (p.none (trace q.file q.seed) q.is_command)
+one_line words files before after s t l m calm (session_refused p a) (usage q c d) = absurd (q.none (trace p.file p.seed) p.is_command)
+one_line words files before after s t l m calm (refused p a) (session_refused q c) = absurd (trace_reads words q.file q.seed q.is_command (Some files) p.command p.bytes p.reads)
+one_line words files before after s t l m calm (session_refused p a) (refused q c) = absurd (trace_reads words p.file p.seed p.is_command (Some files) q.command q.bytes q.reads)
+one_line words files before after s t l m calm (later p a b) (session_refused q c) = absurd (trace_later words q.file q.seed q.is_command p)
+one_line words files before after s t l m calm (session_refused p a) (later q c d) = absurd (trace_later words p.file p.seed p.is_command q)
+one_line words files before after s t l m calm (unfit p a) (session_refused q c) = absurd (trace_reads words q.file q.seed q.is_command (Some files) (call p.calls.file p.input p.fuel) p.calls.bytes p.calls.reads)
+one_line words files before after s t l m calm (session_refused p a) (unfit q c) = absurd (trace_reads words p.file p.seed p.is_command (Some files) (call q.calls.file q.input q.fuel) q.calls.bytes q.calls.reads)
+one_line words files before after s t l m calm (valid p a b) (traced q) = absurd (trace_reads words q.names.file q.seed q.names.is_command (Some files) (check p.file) p.bytes p.reads)
+one_line words files before after s t l m calm (traced p) (valid q c d) = absurd (trace_reads words p.names.file p.seed p.names.is_command (Some files) (check q.file) q.bytes q.reads)
+one_line words files before after s t l m calm (ran p) (traced q) = absurd (trace_reads words q.names.file q.seed q.names.is_command (Some files) (call p.calls.file p.input p.fuel) p.calls.bytes p.calls.reads)
+one_line words files before after s t l m calm (traced p) (ran q) = absurd (trace_reads words p.names.file p.seed p.names.is_command (Some files) (call q.calls.file q.input q.fuel) q.calls.bytes q.calls.reads)
+one_line words files before after s t l m calm (usage p a b) (traced q) = absurd (p.none (trace q.names.file q.seed) q.names.is_command)
+one_line words files before after s t l m calm (traced p) (usage q c d) = absurd (q.none (trace p.names.file p.seed) p.names.is_command)
+one_line words files before after s t l m calm (refused p a) (traced q) = absurd (trace_reads words q.names.file q.seed q.names.is_command (Some files) p.command p.bytes p.reads)
+one_line words files before after s t l m calm (traced p) (refused q c) = absurd (trace_reads words p.names.file p.seed p.names.is_command (Some files) q.command q.bytes q.reads)
+one_line words files before after s t l m calm (later p a b) (traced q) = absurd (trace_later words q.names.file q.seed q.names.is_command p)
+one_line words files before after s t l m calm (traced p) (later q c d) = absurd (trace_later words p.names.file p.seed p.names.is_command q)
+one_line words files before after s t l m calm (unfit p a) (traced q) = absurd (trace_reads words q.names.file q.seed q.names.is_command (Some files) (call p.calls.file p.input p.fuel) p.calls.bytes p.calls.reads)
+one_line words files before after s t l m calm (traced p) (unfit q c) = absurd (trace_reads words p.names.file p.seed p.names.is_command (Some files) (call q.calls.file q.input q.fuel) q.calls.bytes q.calls.reads)
+one_line words files before after s t l m calm (session_refused p a) (session_refused q c) = (a ∙ sym c, session_refused_once words files l m p q)
+one_line words files before after s t l m calm (traced p) (traced q) = traced_once words files s t l m p q
+one_line words files before after s t l m calm (traced p) (session_refused q c) = absurd (traced_refused words files s l m p q)
+one_line words files before after s t l m calm (session_refused p a) (traced q) = absurd (traced_refused words files t m l q p)

@@ -1,5 +1,5 @@
 -- The bytes of a file, and a session, have one line.
-use Rattle.std.proofs.Common.{◌≡◌, ℕ, ◌+◌, ◌<◌, List, [], ◌∷◌, length, Option, Some, Ok, Err, sym, ap, subst, ◌∙◌, arith, ◌⊎◌, inl, inr}
+use Rattle.std.proofs.Common.{◌≡◌, ℕ, ◌+◌, ◌<◌, List, [], ◌∷◌, length, Option, Some, Ok, Err, refl, sym, ap, ap₂, subst, ◌∙◌, arith, ◌⊎◌, inl, inr}
 use Rattle.std.specs.Prelude.{slice_get}
 use Rattle.fa_outside.specs.Files.{Files, file_named}
 use Rattle.faaslet_meaning.specs.declared.module.Module.{Module}
@@ -10,6 +10,7 @@ use Rattle.faaslet_meaning.specs.Runnable.{Runnable, IsUnfit}
 use Rattle.faaslet_meaning.specs.Valid.{RulesHold, FirstUntyped}
 use Rattle.faaslet_meaning.proofs.OneAnswer.{one_answer}
 use Rattle.faaslet_meaning.proofs.OneModule.{one_module}
+use Rattle.session_meaning.specs.Draft.{Draft, DraftFunction}
 use Rattle.session_meaning.specs.RefusalLines.{refused_line, function_line}
 use Rattle.session_meaning.specs.SessionFile.{Answer, Planned, PlanOf, Refused}
 use Rattle.session_meaning.specs.WellFormed.{function_names}
@@ -17,7 +18,7 @@ use Rattle.session_meaning.proofs.FilePlans as plans
 use Rattle.faasm_top.specs.ModuleFiles.{IsAccepted, IsRefusal, too_long, malformed, float, limit, invalid, untyped, IsUsable, IsUnusable, refused, unfit}
 use Rattle.faasm_top.specs.Refusals.{unfit_line}
 use Rattle.faasm_top.specs.Sessions as session
-use Rattle.faasm_top.specs.Sessions.{IsOver, IsFunctionLine, TakesFile, RefusesBytes, over, unusable, RefusesFile, ModulesCome, IsSession, RefusesSession, SessionComes, planned}
+use Rattle.faasm_top.specs.Sessions.{IsOver, IsFunctionLine, TakesFile, RefusesBytes, over, unusable, RefusesFile, GetsModule, GetModules, IsWholeSession, ModulesCome, IsSession, RefusesSession, SessionComes, planned}
 use Rattle.faasm_top.proofs.Unfits.{one_reason, not_unfit}
 
 -- ---- the bytes of a file
@@ -164,3 +165,28 @@ one_session files file a b (planned plan p d) (session.refused m q e) = ok_err p
 one_session files file a b (planned plan p d) (planned other q e) =
     let same = same_ok plan other (same_answer files file _ _ p q) in
     one_answer_of files (function_names other.draft) 0 0 other.paths a b (subst (λ r. ModulesCome (Some files) (function_names r.draft) 0 0 r.paths a) same d) e
+
+-- ---- a session with its modules
+
+one_gets : (files : Files) (path : List ℕ) (f g h : DraftFunction) → GetsModule (Some files) path f g → GetsModule (Some files) path f h → g ≡ h
+one_gets files path f g h p q =
+    let bytes = same_file files path p.bytes q.bytes p.is_file q.is_file in
+    let code = same_module p.code q.code q.bytes (subst (λ b. IsAccepted p.code b) bytes p.accepted) q.accepted in
+    p.is_given ∙ ap (λ m. record f { code = Some m }) code ∙ sym q.is_given
+
+one_filling : (files : Files) (ps : List (List ℕ)) (fs gs hs : List DraftFunction) → GetModules (Some files) ps fs gs → GetModules (Some files) ps fs hs → gs ≡ hs
+one_filling files [] [] [] [] p q = refl
+one_filling files (path ∷ ps) (f ∷ fs) (g ∷ gs) (h ∷ hs) p q = ap₂ (λ x xs. x ∷ xs) (one_gets files path f g h p.0 q.0) (one_filling files ps fs gs hs p.1 q.1)
+one_filling files [] [] (g ∷ gs) hs p q = absurd p
+one_filling files [] [] [] (h ∷ hs) p q = absurd q
+one_filling files [] (f ∷ fs) gs hs p q = absurd p
+one_filling files (path ∷ ps) [] gs hs p q = absurd p
+one_filling files (path ∷ ps) (f ∷ fs) [] hs p q = absurd p
+one_filling files (path ∷ ps) (f ∷ fs) (g ∷ gs) [] p q = absurd q
+
+pub one_whole : (files : Files) (file : List ℕ) (d e : Draft) → IsWholeSession (Some files) file d → IsWholeSession (Some files) file e → d ≡ e
+one_whole files file d e p q =
+    let same = same_ok p.planned q.planned (same_answer files file _ _ p.is_session q.is_session) in
+    let gets = subst (λ r. GetModules (Some files) r.paths r.draft.functions d.functions) same p.modules in
+    let functions = one_filling files q.planned.paths q.planned.draft.functions d.functions e.functions gets q.modules in
+    p.is_draft ∙ ap (λ r. record r.draft { functions = d.functions }) same ∙ ap (λ fs. record q.planned.draft { functions = fs }) functions ∙ sym q.is_draft

@@ -18,16 +18,16 @@ use Rattle.session_meaning.specs.SessionFile.{Planned, PlanOf, Refused, too_many
 use Rattle.session_meaning.specs.SessionFile as file
 use Rattle.session_meaning.specs.WellFormed.{function_names}
 use Rattle.session_meaning.proofs.Entries.{map-changed}
-use Rattle.faasm_top.specs.declared.report.Report.{Report}
+use Rattle.faasm_top.specs.declared.due.Due.{Due}
 use Rattle.faasm_top.specs.declared.words.Command as commands
 use Rattle.faasm_top.specs.declared.words.Command.TheVariants.{Trace}
-use Rattle.faasm_top.specs.Answers.{code_of, IsDue, traced, read_fault}
+use Rattle.faasm_top.specs.Answers.{IsDue, session_refused, read_fault}
 use Rattle.faasm_top.specs.Commands.{texts, command_of}
+use Rattle.faasm_top.specs.Dues.{DueSo}
 use Rattle.faasm_top.specs.ModuleFiles.{too_long, refused}
 use Rattle.faasm_top.specs.declared.stop.Stop.{Stop}
 use Rattle.faasm_top.specs.declared.stop.Stop.TheVariants as stops
-use Rattle.faasm_top.specs.Sessions.{IsFunctionLine, TakesFile, RefusesFile, unusable, ModulesCome, RefusesSession, SessionComes, StopsBy}
-use Rattle.faasm_top.proofs.Dues.{DueToCommand}
+use Rattle.faasm_top.specs.Sessions.{GetModules, GivesFile, IsFunctionLine, TakesFile, RefusesFile, unusable, ModulesCome, RefusesSession, SessionComes, StopsBy}
 
 -- ---- counts of faults
 
@@ -99,7 +99,7 @@ long_session told path read rest line many holds is =
 
 -- ---- one module after another
 
-text_at : (ps : List (String Global)) (i : ℕ) (p : String Global) → i < length ps → p ≡ get_or ps i p → drop i (texts ps) ≡ string_bytes p ∷ drop (suc i) (texts ps)
+pub text_at : (ps : List (String Global)) (i : ℕ) (p : String Global) → i < length ps → p ≡ get_or ps i p → drop i (texts ps) ≡ string_bytes p ∷ drop (suc i) (texts ps)
 text_at [] i p less e = absurd (omega arith)
 text_at (q ∷ ps) zero p less e = ap (λ s. string_bytes s ∷ texts ps) (sym e)
 text_at (q ∷ ps) (suc i) p less e = text_at ps i p (omega (arith, less)) e
@@ -134,23 +134,29 @@ moved_refusal t u m n place before p q line told names path h =
 pub moved_taken : (t u : Option Files) (before count : ℕ) (p q : List ℕ) → t ≡ u → p ≡ q → TakesFile t before p count → TakesFile u before q count
 moved_taken t u before count p q told path h = subst (λ x. TakesFile x before q count) told (subst (λ x. TakesFile t before x count) path h)
 
+pub moved_given : (t u : Option Files) (place : ℕ) (old new : Draft) (p q : List ℕ) → t ≡ u → p ≡ q → GivesFile t p place old new → GivesFile u q place old new
+moved_given t u place old new p q told path h = subst (λ x. GivesFile x q place old new) told (subst (λ x. GivesFile t x place old new) path h)
+
+pub moved_gets : (t u : Option Files) (p q : List (List ℕ)) (fs gs : List DraftFunction) → t ≡ u → p ≡ q → GetModules t p fs gs → GetModules u q fs gs
+moved_gets t u p q fs gs told paths h = subst (λ x. GetModules x q fs gs) told (subst (λ x. GetModules t x fs gs) paths h)
+
 pub moved_modules : (t u : Option Files) (names p q : List (List ℕ)) (answer : Option (List ℕ)) → t ≡ u → p ≡ q → ModulesCome t names 0 0 p answer → ModulesCome u names 0 0 q answer
 moved_modules t u names p q answer told paths h = subst (λ x. ModulesCome x names 0 0 q answer) told (subst (λ x. ModulesCome t names 0 0 x answer) paths h)
 
 -- ---- what is due
 
-abbrev pub DueToTrace : List ℕ → Option Files → ℕ → ℕ → ℕ → List ℕ → Type 0
-DueToTrace path told before after status line = (words : List (List ℕ)) (seed : ℕ) → CommandOf (trace path seed) words → IsDue words told before after status line
+-- the same text and status are due, however they are spelled
+pub same_due : (words : List (List ℕ)) (told : Option Files) (before after s t : ℕ) (l m : List ℕ) → s ≡ t → l ≡ m → IsDue words told before after t m → IsDue words told before after s l
+same_due words told before after s t l m status text due = subst (λ n. IsDue words told before after n l) (sym status) (subst (λ x. IsDue words told before after t x) (sym text) due)
 
-pub session_due : (path : List ℕ) (told : Option Files) (before after : ℕ) (answer : Option (List ℕ)) (line : List ℕ) → SessionComes told path answer → line ≡ unwrap_or answer report.not_built → DueToTrace path told before after 3 line
-session_due path told before after answer line comes is words seed command =
-    traced (record { file = path; seed = seed; is_command = command; answer = answer; comes = comes; is_line = is }) refl
+pub refused_due : (path : List ℕ) (told : Option Files) (before after : ℕ) (line : List ℕ) → SessionComes told path (Some line) → (words : List (List ℕ)) (seed : ℕ) → CommandOf (trace path seed) words → IsDue words told before after 3 line
+refused_due path told before after line comes words seed command = session_refused (record { file = path; seed = seed; is_command = command; comes = comes }) refl
 
-pub fault_due : (path : List ℕ) (told : Option Files) (before after : ℕ) → Rose before after → DueToTrace path told before after 4 report.read_fault
+pub fault_due : (path : List ℕ) (told : Option Files) (before after : ℕ) → Rose before after → (words : List (List ℕ)) (seed : ℕ) → CommandOf (trace path seed) words → IsDue words told before after 4 report.read_fault
 fault_due path told before after rose words seed command =
     read_fault (record { reads = record { command = trace path seed; is_command = command; file = path; is_named = refl }; rose = rose }) refl refl
 
-pub command_due : {E : Type 0} (c : commands.Command) (f : _) (n : ℕ) (told : Option Files) (before after : ℕ) (r : Result Report E) → c ≡ Trace f n → IfOk r (λ x. DueToTrace f.now told before after (code_of x.status) (string_bytes x.line))
-    → IfOk r (λ x. DueToCommand (command_of c) told before after (code_of x.status) (string_bytes x.line))
-command_due c f n told before after (Ok x) is due = λ words command. due words n (subst (λ d. CommandOf (command_of d) words) is command)
+pub command_due : {E : Type 0} (c : commands.Command) (f : _) (n : ℕ) (told : Option Files) (before after : ℕ) (r : Result Due E) → c ≡ Trace f n → IfOk r (λ d. (words : List (List ℕ)) → CommandOf (trace f.now n) words → DueSo words told before after d)
+    → IfOk r (λ d. (words : List (List ℕ)) → CommandOf (command_of c) words → DueSo words told before after d)
+command_due c f n told before after (Ok x) is due = λ words command. due words (subst (λ d. CommandOf (command_of d) words) is command)
 command_due c f n told before after (Err e) is due = tt

@@ -1,6 +1,6 @@
--- What is due to the words and the files: a line, and the status that goes with it. This project's own.
--- PROVISIONAL: of the commands `check` and `call` do their work; `trace` says why a session is refused, and runs none.
-use Rattle.std.specs.Prelude.{◌≡◌, ◌≢◌, ℕ, ◌≤◌, Bool, false, List, [], Option, Some, None, IsSome, IsTrue, unwrap_or}
+-- What is due to the words and the files: a line, or the report of a session, and the status that goes with it. This project's own.
+-- PROVISIONAL: `run` and `load` do not do their work yet.
+use Rattle.std.specs.Prelude.{◌≡◌, ◌≢◌, ℕ, ◌≤◌, Bool, false, List, [], Option, Some, None, IsSome, IsTrue}
 use Rattle.fa_outside.specs.Appended.{Appends, AppendsPart}
 use Rattle.fa_outside.specs.Faults.{Rose}
 use Rattle.fa_outside.specs.Files.{Files, IsFile}
@@ -17,7 +17,9 @@ use Rattle.faasm_top.specs.declared.report.Status.{Status}
 use Rattle.faasm_top.specs.declared.report.Status.TheVariants.{Done, NotDone, Usage, Refused, ShelfFailed, SinkFailed, Want}
 use Rattle.faasm_top.specs.ModuleFiles.{IsAccepted, IsRefusal}
 use Rattle.faasm_top.specs.Refusals.{unfit_line}
-use Rattle.faasm_top.specs.Sessions.{SessionComes}
+use Rattle.session_meaning.specs.Draft.{Draft}
+use Rattle.faasm_top.specs.Sessions.{IsWholeSession, SessionComes}
+use Rattle.faasm_top.specs.Traced.{TracesTo}
 
 -- the statuses
 abbrev pub code_of : Status → ℕ
@@ -116,30 +118,42 @@ pub record IsLater (words : List (List ℕ)) : Type 0 where
   pub is_command : CommandOf command words
   pub no_file : first_file_of command ≡ None
 
--- `trace`: the line of the first refusal of its session, or that nothing is run yet where there is none
-pub record IsTraced (words : List (List ℕ)) (told : Option Files) (line : List ℕ) : Type 0 where
+-- `trace` of a session that is refused: the line of the first refusal of its file or of a module
+pub record IsSessionRefused (words : List (List ℕ)) (told : Option Files) (line : List ℕ) : Type 0 where
   pub file : List ℕ
   pub seed : ℕ
   pub is_command : CommandOf (trace file seed) words
-  pub answer : Option (List ℕ)
-  pub comes : SessionComes told file answer
-  pub is_line : line ≡ unwrap_or answer report.not_built
+  pub comes : SessionComes told file (Some line)
+
+-- the words are `trace` with this seed, and its files hold the session of this draft
+pub record NamesTrace (words : List (List ℕ)) (told : Option Files) (draft : Draft) (seed : ℕ) : Type 0 where
+  pub file : List ℕ
+  pub is_command : CommandOf (trace file seed) words
+  pub session : IsWholeSession told file draft
+
+-- `trace` of an accepted session: the report and the status that it comes to
+pub record IsTraced (words : List (List ℕ)) (told : Option Files) (status : ℕ) (text : List ℕ) : Type 0 where
+  pub draft : Draft
+  pub seed : ℕ
+  pub names : NamesTrace words told draft seed
+  pub traces : TracesTo draft seed status text
 
 -- a command that reads a file, and the shelf's count rose
 pub record IsReadFault (words : List (List ℕ)) (before after : ℕ) : Type 0 where
   pub reads : ReadsFile words
   pub rose : Rose before after
 
--- This line and this status are due. The shelf's count of faults was before, and is after.
-pub data IsDue (words : List (List ℕ)) (told : Option Files) (before after : ℕ) (status : ℕ) (line : List ℕ) : Type 0 where
-  valid : IsValid words told → status ≡ 0 → line ≡ report.valid → IsDue words told before after status line
-  ran : IsRun words told status line → IsDue words told before after status line
-  usage : NoSpelling CommandOf words → status ≡ 2 → line ≡ report.usage → IsDue words told before after status line
-  refused : IsRefused words told line → status ≡ 3 → IsDue words told before after status line
-  later : IsLater words → status ≡ 3 → line ≡ report.not_built → IsDue words told before after status line
-  traced : IsTraced words told line → status ≡ 3 → IsDue words told before after status line
-  unfit : IsUnfitCall words told line → status ≡ 3 → IsDue words told before after status line
-  read_fault : IsReadFault words before after → status ≡ 4 → line ≡ report.read_fault → IsDue words told before after status line
+-- This text and this status are due. The shelf's count of faults was before, and is after.
+pub data IsDue (words : List (List ℕ)) (told : Option Files) (before after : ℕ) (status : ℕ) (text : List ℕ) : Type 0 where
+  valid : IsValid words told → status ≡ 0 → text ≡ report.valid → IsDue words told before after status text
+  ran : IsRun words told status text → IsDue words told before after status text
+  traced : IsTraced words told status text → IsDue words told before after status text
+  usage : NoSpelling CommandOf words → status ≡ 2 → text ≡ report.usage → IsDue words told before after status text
+  refused : IsRefused words told text → status ≡ 3 → IsDue words told before after status text
+  later : IsLater words → status ≡ 3 → text ≡ report.not_built → IsDue words told before after status text
+  session_refused : IsSessionRefused words told text → status ≡ 3 → IsDue words told before after status text
+  unfit : IsUnfitCall words told text → status ≡ 3 → IsDue words told before after status text
+  read_fault : IsReadFault words before after → status ≡ 4 → text ≡ report.read_fault → IsDue words told before after status text
 
 -- whatever the words that are this command, where its file holds these bytes
 abbrev pub DueToModule : Command → List ℕ → ℕ → List ℕ → Type 0
@@ -151,23 +165,31 @@ abbrev pub DueToCalls : Module → List ℕ → ℕ → ℕ → List ℕ → Typ
 DueToCalls code input fuel status line =
     (words : List (List ℕ)) (told : Option Files) (before after : ℕ) → CallsModule words told code input fuel → IsDue words told before after status line
 
--- the line that is due was written whole, and the status is its own
+-- the text that is due was written whole, and the status is its own
 pub record WritesWhole (words : List (List ℕ)) (told : Option Files) (before after : ℕ) (old new : Option (List ℕ)) (status : ℕ) : Type 0 where
-  pub line : List ℕ
-  pub is_due : IsDue words told before after status line
-  pub appends : Appends old new line
+  pub text : List ℕ
+  pub is_due : IsDue words told before after status text
+  pub appends : Appends old new text
 
--- What is left of the shelf where a line with this status is due: after a read fault nothing is open; otherwise the last
+-- What is left of the shelf where a text with this status is due: after a read fault nothing is open; otherwise the last
 -- file that the command read is, and after 0 and 1 it was read to its end.
 pub record Leaves (words : List (List ℕ)) (told : Option Files) (status : ℕ) (is_open : Bool) (rest : List ℕ) : Type 0 where
   pub closed : status ≡ 4 → is_open ≡ false
   pub ended : status ≤ 1 → IsSome told → rest ≡ []
   pub left_open : ReadsFile words → (status ≡ 4 → ⊥) → IsTrue is_open
 
--- of a line that was due a front was written, and not all; the shelf is left as the status of that line says
+-- of a text that was due a front was written, and not all; the shelf is left as the status of that text says
 pub record WritesPart (words : List (List ℕ)) (told : Option Files) (before after : ℕ) (old new : Option (List ℕ)) (is_open : Bool) (rest : List ℕ) : Type 0 where
   pub status : ℕ
-  pub line : List ℕ
-  pub is_due : IsDue words told before after status line
-  pub appends : AppendsPart old new line
+  pub text : List ℕ
+  pub is_due : IsDue words told before after status text
+  pub appends : AppendsPart old new text
+  pub leaves : Leaves words told status is_open rest
+
+-- the same of a trace alone
+pub record WritesPartOfTrace (words : List (List ℕ)) (told : Option Files) (old new : Option (List ℕ)) (is_open : Bool) (rest : List ℕ) : Type 0 where
+  pub status : ℕ
+  pub text : List ℕ
+  pub is_trace : IsTraced words told status text
+  pub appends : AppendsPart old new text
   pub leaves : Leaves words told status is_open rest

@@ -1,6 +1,9 @@
 pub mod Answers
 pub mod Commands
+pub mod Dues
 pub mod FreshCall
 pub mod ModuleFiles
 pub mod Refusals
 pub mod Sessions
+pub mod Traced
+pub mod Whole

@@ -2,6 +2,8 @@
 #![tactic(auto)]
 
 mod commands;
+mod delivery;
+mod due;
 mod finish;
 mod module_files;
 mod outcomes;
@@ -12,6 +14,7 @@ mod session_lines;
 mod session_modules;
 mod stop;
 mod trace;
+mod tracing;
 mod words;
 
 pub use commands::{answer, one_line};

@@ -10,9 +10,9 @@ use std::alloc::{AllocError, Global};
 /// How the program ends.
 #[derive(Clone, Copy, Debug, PartialEq, Eq)]
 pub enum Status {
-    /// The module is valid, or the call came to its end.
+    /// The module is valid, or the call came to its end, or that of each request.
     Done = 0,
-    /// It trapped, spent its fuel or could not begin.
+    /// A call trapped, spent its fuel or could not begin, or a session is stuck.
     NotDone = 1,
     /// The words are no command.
     Usage = 2,

@@ -1,17 +1,17 @@
 //! The modules of a session's functions, which are read in their order.
 
-ghost use Rattle.std.specs.Prelude.{◌≡◌, ◌+◌, ◌<◌, ◌≤◌, None, Some, IsTrue, IfOk, IfErr, OnOk, length};
+ghost use Rattle.std.specs.Prelude.{◌≡◌, ◌+◌, ◌<◌, ◌≤◌, [], None, Some, IsSome, IsTrue, IfOk, IfErr, OnOk, length};
 ghost use Rattle.std.specs.String.{string_bytes};
 ghost use Rattle.faaslet_meaning.specs.Decoding.{module_limit};
 ghost use Rattle.faaslet_meaning.specs.Runnable.{IsUnfit};
 ghost use Rattle.function_rules.specs.Reasons.{reason_of};
 ghost use Rattle.grant_registry.specs.Refuses.{IsUnfitFor};
 ghost use Rattle.session_meaning.specs.SessionLimits.{modules_limit};
-ghost use Rattle.session_meaning.specs.WellFormed.{function_names};
+ghost use Rattle.session_meaning.specs.WellFormed.{WellFormedDraft, function_names};
 ghost use Rattle.faaslet_meaning.specs.declared.module.Module.{Module};
 ghost use Rattle.faasm_top.specs.Commands.{texts};
-ghost use Rattle.faasm_top.specs.ModuleFiles.{IsUsable, IsUnusable};
-ghost use Rattle.faasm_top.specs.Sessions.{IsFunctionLine, IsOver, TakesFile, RefusesBytes, RefusesFile, ModulesCome, StopsBy};
+ghost use Rattle.faasm_top.specs.ModuleFiles.{IsUnusable};
+ghost use Rattle.faasm_top.specs.Sessions.{GetModules, GivesFile, GivesModule, IsFunctionLine, IsOver, TakesFile, RefusesBytes, RefusesFile, ModulesCome, StopsBy};
 
 use crate::module_files::{MODULE_LIMIT, read_valid};
 use crate::refusals::unfit;
@@ -48,7 +48,7 @@ fn give_module(
     bytes: &[u8],
 ) -> Result<Result<(), Report>, AllocError>
     requires { f < length registry.old.functions }
-    ensures given { IfOk result (λ r. OnOk r (IsUsable bytes.now)) }
+    ensures given { IfOk result (λ r. OnOk r (GivesModule bytes.now f registry.old registry.new)) }
     ensures refused { IfOk result (λ r. IfErr r (λ x. IsUnusable bytes.now (string_bytes x.line))) }
     ensures names { function_names registry.new ≡ function_names registry.old }
     ensures functions { length registry.new.functions ≡ length registry.old.functions }
@@ -91,7 +91,7 @@ fn take_bytes(
     requires few { before ≤ modules_limit }
     requires short { length bytes.now ≤ module_limit }
     ensures not_over { IfOk result (λ r. OnOk r (before + length bytes.now ≤ modules_limit)) }
-    ensures usable { IfOk result (λ r. OnOk r (IsUsable bytes.now)) }
+    ensures given { IfOk result (λ r. OnOk r (GivesModule bytes.now f registry.old registry.new)) }
     ensures refused { IfOk result (λ r. IfErr r (λ l.
         RefusesBytes (function_names registry.old) f before bytes.now (string_bytes l))) }
     ensures names { function_names registry.new ≡ function_names registry.old }
@@ -122,8 +122,10 @@ fn take_module<F: Shelf>(
     requires exists { f < length registry.old.functions }
     requires few { before ≤ modules_limit }
     ensures taken { IfOk result (λ n. TakesFile (F.told shelf.old) before path.now n) }
+    ensures given { OnOk result (GivesFile (F.told shelf.old) path.now f registry.old registry.new) }
     ensures few { IfOk result (λ n. before + n ≤ modules_limit) }
     ensures open { OnOk result (IsTrue (F.is_open shelf.new)) }
+    ensures ended { OnOk result (IsSome (F.told shelf.old) → F.rest shelf.new ≡ []) }
     ensures stopped { IfErr result (λ e. StopsBy e (F.faults shelf.old) (F.faults shelf.new) (F.is_open shelf.new)
         (λ line. RefusesFile (F.told shelf.old) (function_names registry.old) f before path.now line)) }
     ensures names { function_names registry.new ≡ function_names registry.old }
@@ -147,7 +149,7 @@ fn take_module<F: Shelf>(
 }
 
 /// Reads the module of each function from its file, in the order of functions, and gives it to the
-/// function. The shelf has a file open.
+/// function. The shelf has a file open, which is read to its end.
 pub fn take_modules<F: Shelf>(
     alloc: Global,
     shelf: &mut F,
@@ -155,10 +157,17 @@ pub fn take_modules<F: Shelf>(
     paths: &[String],
 ) -> Result<(), Stop>
     requires each { length paths.now ≡ length registry.old.functions }
+    requires formed { WellFormedDraft registry.old }
     requires open { IsTrue (F.is_open shelf.old) }
+    requires ended { IsSome (F.told shelf.old) → F.rest shelf.old ≡ [] }
     ensures taken { OnOk result
         (ModulesCome (F.told shelf.old) (function_names registry.old) 0 0 (texts paths.now) None) }
+    ensures given { OnOk result
+        (GetModules (F.told shelf.old) (texts paths.now) registry.old.functions registry.new.functions) }
+    ensures rest { OnOk result (registry.new ≡ record registry.old { functions = registry.new.functions }) }
+    ensures formed { OnOk result (WellFormedDraft registry.new) }
     ensures open { OnOk result (IsTrue (F.is_open shelf.new)) }
+    ensures ended { OnOk result (IsSome (F.told shelf.old) → F.rest shelf.new ≡ []) }
     ensures stopped { IfErr result (λ e. StopsBy e (F.faults shelf.old) (F.faults shelf.new) (F.is_open shelf.new)
         (λ line. ModulesCome (F.told shelf.old) (function_names registry.old) 0 0 (texts paths.now) (Some line))) }
     ensures told { F.told shelf.new ≡ F.told shelf.old }

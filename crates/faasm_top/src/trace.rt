@@ -1,16 +1,17 @@
-//! What `trace` answers: a session file and its modules are read, and the first refusal is told.
+//! What `trace` reads: a session file and the modules of its functions, up to the first refusal.
 
-ghost use Rattle.std.specs.Prelude.{◌≡◌, ◌≢◌, ℕ, ◌≤◌, List, None, Some, Ok, Err, IsTrue, false, IfOk, IfErr, OnOk};
+ghost use Rattle.std.specs.Prelude.{◌≡◌, ◌≢◌, ℕ, ◌≤◌, List, [], Some, Ok, Err, IsSome, IsTrue, false, IfOk, IfErr, OnOk};
 ghost use Rattle.std.specs.String.{string_bytes};
 ghost use Rattle.faaslet_meaning.specs.Words as commands;
 ghost use Rattle.faaslet_meaning.specs.Words.{CommandOf};
 ghost use Rattle.session_meaning.specs.RefusalLines as lines;
 ghost use Rattle.session_meaning.specs.SessionFile.{FileFits, PlanOf, Refused};
 ghost use Rattle.session_file.specs.Told.{planned_of};
-ghost use Rattle.faasm_top.specs.Answers.{code_of, IsDue};
-ghost use Rattle.faasm_top.specs.Sessions.{IsSession, RefusesSession, SessionComes, StopsBy};
+ghost use Rattle.faasm_top.specs.Dues.{status_now, DueSo};
+ghost use Rattle.faasm_top.specs.Sessions.{IsSession, IsWholeSession, RefusesSession, SessionComes, StopsBy};
 
-use crate::report::{Report, Status, not_built, read_fault};
+use crate::due::{Due, WholeSession};
+use crate::report::{Report, Status, read_fault};
 use crate::session_lines::refused_line;
 use crate::session_modules::take_modules;
 use crate::stop::Stop;
@@ -43,6 +44,7 @@ fn read_plan<F: Shelf>(alloc: Global, shelf: &mut F, file: &str) -> Result<Sessi
     ensures read { IfOk result (λ p. IsSession (F.told shelf.old) file.now (Ok (planned_of p))) }
     ensures fits { IfOk result (λ p. FileFits (planned_of p)) }
     ensures open { OnOk result (IsTrue (F.is_open shelf.new)) }
+    ensures ended { OnOk result (IsSome (F.told shelf.old) → F.rest shelf.new ≡ []) }
     ensures stopped { IfErr result (λ e. StopsBy e (F.faults shelf.old) (F.faults shelf.new) (F.is_open shelf.new)
         (λ line. RefusesSession (F.told shelf.old) file.now line)) }
     ensures told { F.told shelf.new ≡ F.told shelf.old }
@@ -64,9 +66,10 @@ fn read_plan<F: Shelf>(alloc: Global, shelf: &mut F, file: &str) -> Result<Sessi
 }
 
 /// The session in a file, with the modules of its functions.
-fn read_whole<F: Shelf>(alloc: Global, shelf: &mut F, file: &str) -> Result<SessionPlan, Stop>
-    ensures accepted { OnOk result (SessionComes (F.told shelf.old) file.now None) }
+fn read_whole<F: Shelf>(alloc: Global, shelf: &mut F, file: &str) -> Result<WholeSession, Stop>
+    ensures accepted { IfOk result (λ s. IsWholeSession (F.told shelf.old) file.now s) }
     ensures open { OnOk result (IsTrue (F.is_open shelf.new)) }
+    ensures ended { OnOk result (IsSome (F.told shelf.old) → F.rest shelf.new ≡ []) }
     ensures stopped { IfErr result (λ e. StopsBy e (F.faults shelf.old) (F.faults shelf.new) (F.is_open shelf.new)
         (λ line. SessionComes (F.told shelf.old) file.now (Some line))) }
     ensures told { F.told shelf.new ≡ F.told shelf.old }
@@ -74,28 +77,33 @@ fn read_whole<F: Shelf>(alloc: Global, shelf: &mut F, file: &str) -> Result<Sess
 {
     let mut plan = read_plan(alloc, shelf, file)?;
     take_modules(alloc, shelf, &mut plan.registry, plan.paths.as_slice())?;
-    Ok(plan)
+    Ok(WholeSession::of(plan.registry))
 }
 
-/// Answers `trace`, whatever its seed: the first refusal of the session, and else that it is not run.
-pub fn trace<F: Shelf>(alloc: Global, shelf: &mut F, file: &str) -> Result<Report, AllocError>
-    ensures due { IfOk result (λ r. (words : List (List ℕ)) (seed : ℕ)
+/// Reads the session of `trace`: what comes of it is the line of its first refusal, or that it is to run.
+pub fn trace<F: Shelf>(
+    alloc: Global,
+    shelf: &mut F,
+    file: &str,
+    seed: u64,
+) -> Result<Due, AllocError>
+    ensures due { IfOk result (λ d. (words : List (List ℕ))
         → CommandOf (commands.trace file.now seed) words
-        → IsDue words (F.told shelf.old) (F.faults shelf.old) (F.faults shelf.new)
-        (code_of r.status) (string_bytes r.line)) }
-    ensures not_done { IfOk result (λ r. 3 ≤ code_of r.status) }
-    ensures closed { IfOk result (λ r. code_of r.status ≡ 4 → F.is_open shelf.new ≡ false) }
-    ensures left_open { IfOk result (λ r. code_of r.status ≢ 4 → IsTrue (F.is_open shelf.new)) }
+        → DueSo words (F.told shelf.old) (F.faults shelf.old) (F.faults shelf.new) d) }
+    ensures closed { IfOk result (λ d. status_now d ≡ 4 → F.is_open shelf.new ≡ false) }
+    ensures ended { IfOk result (λ d. status_now d ≤ 1
+        → IsSome (F.told shelf.old) → F.rest shelf.new ≡ []) }
+    ensures left_open { IfOk result (λ d. status_now d ≢ 4 → IsTrue (F.is_open shelf.new)) }
     ensures told { F.told shelf.new ≡ F.told shelf.old }
     ensures counted { F.faults shelf.old ≤ F.faults shelf.new }
 {
     match read_whole(alloc, shelf, file) {
-        Ok(_) => not_built(alloc),
-        Err(Stop::Refused(line)) => Ok(Report {
+        Ok(session) => Ok(Due::Trace(session, seed)),
+        Err(Stop::Refused(line)) => Ok(Due::Line(Report {
             status: Status::Refused,
             line,
-        }),
-        Err(Stop::Unreadable) => read_fault(alloc),
+        })),
+        Err(Stop::Unreadable) => Ok(Due::Line(read_fault(alloc)?)),
         Err(Stop::Want) => Err(AllocError),
     }
 }

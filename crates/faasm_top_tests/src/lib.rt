@@ -15,4 +15,6 @@ mod session_tests;
 #[cfg(test)]
 mod tests;
 #[cfg(test)]
+mod trace_tests;
+#[cfg(test)]
 mod word_tests;

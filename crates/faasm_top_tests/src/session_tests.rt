@@ -1,6 +1,6 @@
-//! Sessions that `trace` refuses, and some that it doesn't.
+//! Sessions that `trace` refuses, and some that it runs.
 
-use crate::tests::{ANSWER, NOT_BUILT, TYPES, owned};
+use crate::tests::{ANSWER, TYPES, owned};
 use fa_outside::{FailShelf, MemShelf, MemSink};
 use faasm_top::answer;
 use std::alloc::{AllocError, Global};
@@ -10,9 +10,9 @@ const EMPTY: &str = r#"{"hosts":1,"workers":1,"keys":[],"functions":[],"requests
 
 const FAULT: &str = "read fault\n";
 
-/// A session, and the line and the status that are due to `trace`.
+/// A session, and the text and the status that are due to `trace`.
 const ROWS: [(&str, &str, &str, u8); 24] = [
-    ("nothing", EMPTY, NOT_BUILT, 3),
+    ("nothing", EMPTY, "", 0),
     (
         "a brace is missing",
         r#"{"hosts":1,"workers":1,"keys":[],"functions":[],"requests":[]"#,
@@ -82,14 +82,14 @@ const ROWS: [(&str, &str, &str, u8); 24] = [
     (
         "two functions with the usual quota",
         r#"{"hosts":4,"workers":2,"keys":[],"functions":[{"name":"f","module":"answer"},{"name":"g","module":"answer"}],"requests":[{"label":"r","function":"g","host":3}]}"#,
-        NOT_BUILT,
-        3,
+        "r done 42 used 1 output \n",
+        0,
     ),
     (
         "grants, calls and input",
         r#"{"hosts":1,"workers":1,"keys":[{"name":"k","size":2,"init":"0102"}],"functions":[{"name":"f","module":"answer","fuel":9,"output":0,"grants":[{"key":"k","mode":"write"}],"calls":["f"]}],"requests":[{"label":"r","function":"f","input":"0a"}]}"#,
-        NOT_BUILT,
-        3,
+        "r done 42 used 1 output \nstate k 0102\n",
+        0,
     ),
     (
         "a module that is not there",
@@ -227,14 +227,14 @@ fn files_of_a_session_are_long(rt: HostRuntime) -> Result<(), Fail> {
         r#"{"hosts":1,"workers":1,"keys":[],"functions":[{"name":"a","module":"over"}],"requests":[]}"#;
     let spaces = vec![in alloc; b' '; 8_388_608]?;
     let more = vec![in alloc; b' '; 8_388_609]?;
-    let rows: [(&[u8], &str); 5] = [
-        (four.as_bytes(), NOT_BUILT),
-        (five.as_bytes(), "session module-budget functions 4\n"),
-        (long.as_bytes(), "function a too long\n"),
-        (&spaces, "session json session 0\n"),
-        (&more, "session long session 0\n"),
+    let rows: [(&[u8], &str, u8); 5] = [
+        (four.as_bytes(), "", 0),
+        (five.as_bytes(), "session module-budget functions 4\n", 3),
+        (long.as_bytes(), "function a too long\n", 3),
+        (&spaces, "session json session 0\n", 3),
+        (&more, "session long session 0\n", 3),
     ];
-    for (session, line) in rows {
+    for (session, line, status) in rows {
         let mut files = shelf_files(alloc, session)?;
         files.push((
             String::from_str(alloc, "most")?,
@@ -246,7 +246,11 @@ fn files_of_a_session_are_long(rt: HostRuntime) -> Result<(), Fail> {
         ))?;
         let mut shelf = MemShelf::new(files);
         let mut out = MemSink::with_room(alloc, 100)?;
-        assert_eq!(rt; answer(alloc, &words, &mut shelf, &mut out), 3, "{line}");
+        assert_eq!(rt;
+            answer(alloc, &words, &mut shelf, &mut out),
+            status,
+            "{line}"
+        );
         assert_eq!(rt; out.bytes(), line.as_bytes());
     }
     Ok(())
@@ -263,7 +267,7 @@ fn the_shelf_fails_in_the_midst(rt: HostRuntime) -> Result<(), Fail> {
         let inner = MemShelf::new(shelf_files(alloc, session.as_bytes())?);
         let mut shelf = FailShelf::new(inner, Vec::from_slice(alloc, &[call])?);
         let mut out = MemSink::with_room(alloc, 100)?;
-        let (line, status) = if call < 9 { (FAULT, 4) } else { (NOT_BUILT, 3) };
+        let (line, status) = if call < 9 { (FAULT, 4) } else { ("", 0) };
         assert_eq!(rt;
             answer(alloc, &words, &mut shelf, &mut out),
             status,

@@ -1,10 +1,8 @@
 use Rattle.std.specs.Prelude.{IsTrue}
+use Rattle.faasm_top.specs.Answers.{code_of}
 use Rattle.faasm_top.specs.Commands.{texts, command_of}
-use Rattle.faasm_top.proofs.Dues.{words_due, reader_open, usage_open, no_file}
+use Rattle.faasm_top.proofs.Dues.{words_due, reader_open, no_file}
 use Rattle.faasm_top.proofs.commands.answer_words.Goals as goal
-
-pub returns-in-Err-Usage-clause-left_open : goal.returns-in-Err-Usage-clause-left_open
-returns-in-Err-Usage-clause-left_open g c = usage_open (texts c.args.words.now) (IsTrue (g.F.Shelf.is_open c.args.shelf.now)) c.usage.result (c.read_words.ensures.usage cc)
 
 pub returns-clause-due : goal.returns-clause-due
 returns-clause-due g c = words_due (command_of c.in-Ok.command) (texts c.args.words.now) _ _ _ c.answer_command.result c.in-Ok.ensures.found c.answer_command.ensures.due

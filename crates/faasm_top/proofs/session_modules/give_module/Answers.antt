@@ -7,6 +7,14 @@ use Rattle.faasm_top.proofs.session_modules.give_module.Goals.{in-Ok-set_module,
 pub returns-in-Err-clause-refused : goal.returns-in-Err-clause-refused
 returns-in-Err-clause-refused c = refused (rw c.in-Err.is at c.in_ok-module.ensures.refused)
 
+pub returns-clause-given : goal.returns-clause-given
+returns-clause-given c =
+    let accepted = rw c.in-Ok.is at c.in_ok-module.ensures.accepted in
+    elim c.match-set_module.branch [
+      | in-Ok-set_module w ↦ rw w.result-is (record { code = c.in-Ok.module; accepted = accepted; runnable = w.in-Ok-set_module.ensures.runnable; is_given = w.in-Ok-set_module.ensures.ok })
+      | in-Err-set_module+in_ok-unfit-in-Err-set_module w ↦ rw w.result-is tt
+    ]
+
 pub returns-clause-refused : goal.returns-clause-refused
 returns-clause-refused c =
     let accepted = rw c.in-Ok.is at c.in_ok-module.ensures.accepted in

@@ -1,5 +1,8 @@
-use Rattle.std.proofs.Common.{◌∙◌, ◌<◌, arith, length}
-use Rattle.faasm_top.proofs.Sessions.{handed_on, stops_later, refused_module, next_module, moved_refusal, moved_taken}
+use Rattle.std.proofs.Common.{◌∙◌, ◌<◌, arith, length, subst, sym}
+use Rattle.std.specs.Prelude.{IsSome}
+use Rattle.faasm_top.specs.Commands.{texts}
+use Rattle.faasm_top.proofs.Modules.{formed_still, one_filled}
+use Rattle.faasm_top.proofs.Sessions.{handed_on, stops_later, refused_module, next_module, moved_given, moved_refusal, moved_taken, text_at}
 use Rattle.faasm_top.proofs.session_modules.take_modules.Goals as goal
 
 pub returns-in_err-before-clause-stopped : goal.returns-in_err-before-clause-stopped
@@ -25,4 +28,9 @@ functions-preserved g c =
       few = c.in_ok-before.ensures.few;
       so_far = next_module _ _ c.args.paths.now c.functions.f c.functions.before c.in_ok-before.field-0 c.index-paths-f.result within c.index-paths-f.is inv.so_far
           (moved_taken _ _ c.functions.before c.in_ok-before.field-0 _ _ inv.told c.as_str-path.ensures.value c.in_ok-before.ensures.taken);
+      ended = λ some. c.in_ok-before.ensures.ended (subst IsSome (sym inv.told) some);
+      formed = formed_still _ c.functions.f c.functions.registry c.take_module.new.registry c.in_ok-before.ensures.given.gives inv.formed;
+      filled = one_filled _ (texts c.args.paths.now) c.functions.f _ c.functions.registry c.take_module.new.registry _ (omega (arith, within, c.requires.each))
+          (text_at c.args.paths.now c.functions.f c.index-paths-f.result within c.index-paths-f.is)
+          (moved_given _ _ c.functions.f c.functions.registry c.take_module.new.registry _ _ inv.told c.as_str-path.ensures.value c.in_ok-before.ensures.given) inv.filled;
     }

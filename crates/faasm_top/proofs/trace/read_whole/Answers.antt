@@ -1,7 +1,9 @@
-use Rattle.std.proofs.Common.{arith, refl}
+-- What comes of the file and of the modules comes of the session.
+use Rattle.std.proofs.Common.{arith, refl, sym}
 use Rattle.session_file.specs.Told.{planned_of}
 use Rattle.faasm_top.specs.Sessions.{refused, planned}
-use Rattle.faasm_top.proofs.Sessions.{handed_on, stops_later, moved_modules}
+use Rattle.faasm_top.proofs.Modules.{has_modules}
+use Rattle.faasm_top.proofs.Sessions.{handed_on, stops_later, moved_gets, moved_modules}
 use Rattle.faasm_top.proofs.trace.read_whole.Goals as goal
 
 pub returns-in_err-plan-clause-stopped : goal.returns-in_err-plan-clause-stopped
@@ -18,4 +20,13 @@ returns-in_err-take_modules-clause-stopped g c =
 
 pub returns-clause-accepted : goal.returns-clause-accepted
 returns-clause-accepted g c =
-    planned (planned_of c.in_ok-plan.plan) c.in_ok-plan.ensures.read (moved_modules _ _ _ _ _ _ c.read_plan.ensures.told c.as_slice.ensures c.in_ok-take_modules.ensures.taken)
+    rw c.of.ensures record {
+      comes = planned (planned_of c.in_ok-plan.plan) c.in_ok-plan.ensures.read (moved_modules _ _ _ _ _ _ c.read_plan.ensures.told c.as_slice.ensures c.in_ok-take_modules.ensures.taken);
+      planned = planned_of c.in_ok-plan.plan;
+      is_session = c.in_ok-plan.ensures.read;
+      modules = moved_gets _ _ _ _ _ _ c.read_plan.ensures.told c.as_slice.ensures c.in_ok-take_modules.ensures.given;
+      is_draft = c.in_ok-take_modules.ensures.rest;
+    }
+
+pub of-requires-clause-modules : goal.of-requires-clause-modules
+of-requires-clause-modules g c = has_modules _ _ _ c.take_modules.new.registry c.in_ok-take_modules.ensures.given
