@@ -15,7 +15,9 @@ use Rattle.turn_cell.specs.declared.view.Entry.{Entry}
 use Rattle.std.specs.Vec.{vec_capacity}
 use Rattle.turn_cell.specs.History.{Stands, Extends, MakersBelow, Each}
 use Rattle.turn_cell.specs.Cell.{IsPassOf, IsTurnOf, pass_list, pass_number, turn_list, maker_of, taken_of, value_of, start_of, numbers_of, whole_list}
+use Rattle.std.specs.List.{All}
 use Rattle.region_tier.specs.declared.cells.Tier.{Tier}
+use Rattle.region_tier.specs.declared.cells.TierRoom.{TierRoom}
 use Rattle.region_tier.specs.declared.cells.Passes.{Passes}
 
 abbrev pub RegionPass : Type 0
@@ -107,7 +109,13 @@ abbrev pub numbers_in : Tier → ℕ
 numbers_in tier = tier.numbers
 
 abbrev pub room_of : Tier → ℕ
-room_of tier = vec_capacity tier.ends
+room_of tier = vec_capacity tier.cells
+
+-- the memory with which a tier closes: for each key a home for the passes of its makers, and room for the ends of all keys
+pub record IsRoomOf (room : TierRoom) (tier : Tier) : Type 0 where
+  pub homes : length room.homes.items ≡ length (cells_of tier)
+  pub makers : All (λ h. vec_capacity h ≡ numbers_in tier) room.homes.items
+  pub keys : vec_capacity room.ends ≡ room_of tier
 
 -- each maker's passes have room for so many keys
 abbrev pub HaveRoom : ℕ → List Passes → Type 0

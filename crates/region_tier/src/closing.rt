@@ -1,24 +1,27 @@
 //! A tier ends: every pass comes back, and each region with its whole list.
-ghost use Rattle.region_tier.specs.Tiers.{AreClosed, AreRows, cells_of, numbers_in};
+ghost use Rattle.region_tier.specs.Tiers.{AreClosed, AreRows, IsRoomOf, cells_of, numbers_in};
 
-use crate::cells::{Passes, Tier};
+use crate::cells::{Passes, Tier, TierRoom};
 use crate::rows::gather;
 use shared_region::Region;
 use turn_cell::Seen;
 
 impl Tier {
     /// Takes all passes back, in the order in which they were made, and gives for each key in order its region and its
-    /// whole list. Takes no memory.
-    pub fn close(self, mut passes: Vec<Passes>) -> Vec<(Region, Seen<Region>)>
-        requires { AreRows (cells_of self) (numbers_in self) passes.items }
+    /// whole list. Takes no memory but what the tier was made with.
+    pub fn close(self, room: TierRoom, mut passes: Vec<Passes>) -> Vec<(Region, Seen<Region>)>
+        requires room { IsRoomOf room self }
+        requires passes { AreRows (cells_of self) (numbers_in self) passes.items }
         ensures { AreClosed (cells_of self) passes.items result.items }
     {
         let Tier {
             mut cells,
-            mut homes,
-            mut ends,
             numbers: _,
         } = self;
+        let TierRoom {
+            mut homes,
+            mut ends,
+        } = room;
         while let Some(turns) = cells.pop() {
             let Some(home) = homes.pop() else {
                 unreachable!()

@@ -11,4 +11,4 @@ mod rows;
 mod slots;
 mod tier;
 
-pub use cells::{Passes, Tier};
+pub use cells::{Passes, Tier, TierRoom};

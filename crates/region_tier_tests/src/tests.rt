@@ -23,10 +23,19 @@ fn one_maker_looks(rt: HostRuntime) {
 
 #[test]
 fn the_first_maker_is_told_what_the_second_read(rt: HostRuntime) {
-    let Some(Told { tier, passes, read }) = write_read_tell(&rt, rt.alloc()) else {
+    let Some(
+        Told {
+            tier,
+            room,
+            passes,
+            read,
+        },
+    ) = write_read_tell(&rt, rt.alloc())
+    else {
         panic!(rt; "no memory");
     };
-    let mut ends = tier.close(passes);
+    shared(&tier);
+    let mut ends = tier.close(room, passes);
     let found = ends
         .pop()
         .and_then(|(region, _list)| region.bytes().first().copied());

@@ -29,6 +29,8 @@ pub fn serve_each<R: Wait>(rt: &R, alloc: Global, asks: &[Ask]) -> Option<Vec<To
         Pair {
             locals,
             globals,
+            local_room,
+            global_room,
             local_home,
             global_home,
             mut first,
@@ -41,8 +43,14 @@ pub fn serve_each<R: Wait>(rt: &R, alloc: Global, asks: &[Ask]) -> Option<Vec<To
     for asked in asks {
         serve_plain(rt, &locals, &globals, &mut first, asked, &mut told);
     }
-    close(locals, local_home, first.local, second.local);
-    close(globals, global_home, first.global, second.global);
+    close(locals, local_room, local_home, first.local, second.local);
+    close(
+        globals,
+        global_room,
+        global_home,
+        first.global,
+        second.global,
+    );
     Some(told)
 }
 

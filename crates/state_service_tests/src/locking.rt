@@ -26,6 +26,8 @@ pub fn lock_once<R: Wait>(
         Pair {
             locals,
             globals,
+            local_room,
+            global_room,
             local_home,
             global_home,
             mut first,
@@ -36,8 +38,14 @@ pub fn lock_once<R: Wait>(
         return None;
     };
     let replies = lock_one(rt, &locals, &globals, &mut first, channel, op);
-    close(locals, local_home, first.local, second.local);
-    close(globals, global_home, first.global, second.global);
+    close(locals, local_room, local_home, first.local, second.local);
+    close(
+        globals,
+        global_room,
+        global_home,
+        first.global,
+        second.global,
+    );
     Some(replies)
 }
 

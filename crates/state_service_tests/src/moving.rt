@@ -43,6 +43,8 @@ pub fn fill_write_push<R: Wait>(rt: &R, alloc: Global) -> Option<Ends>
         Pair {
             locals,
             globals,
+            local_room,
+            global_room,
             local_home,
             global_home,
             mut first,
@@ -53,8 +55,14 @@ pub fn fill_write_push<R: Wait>(rt: &R, alloc: Global) -> Option<Ends>
         return None;
     };
     take_turns(rt, &locals, &globals, &mut first, &mut second);
-    let replica = close(locals, local_home, first.local, second.local);
-    let global = close(globals, global_home, first.global, second.global);
+    let replica = close(locals, local_room, local_home, first.local, second.local);
+    let global = close(
+        globals,
+        global_room,
+        global_home,
+        first.global,
+        second.global,
+    );
     Some(Ends { replica, global })
 }
 

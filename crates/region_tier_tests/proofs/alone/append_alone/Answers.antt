@@ -15,8 +15,8 @@ access-reply-requires g c =
     let r = c.index_mut-own.result.now in
     ready cells 1 c.in-Ok.passes.items 0 r 0 t.0 _ c.in-Ok.ensures.passes (read_at c.in-Ok.passes.items 0 r (let n = c.in-Ok.ensures.passes.0 in omega (arith, n)) c.index_mut-own.ensures.value) (omega arith) t.1 o.3 (λ p. (tt, tt))
 
-pub close-ends-requires : goal.close-ends-requires
-close-ends-requires g c =
+pub close-ends-requires-clause-passes : goal.close-ends-requires-clause-passes
+close-ends-requires-clause-passes g c =
     let cells = cells_of c.in-Ok.tier in
     let rows = c.in-Ok.passes.items in
     let f = c.in-Ok.ensures.passes in

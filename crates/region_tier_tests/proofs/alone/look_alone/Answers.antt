@@ -26,8 +26,8 @@ give_back-requires-clause-out g c =
     let old = slots_of c.index_mut-own.result.now in
     record { cell = t.cell; at_cell = t.at_cell; out = ap (λ l. get_elem? l 0) t.out ∙ at_put old 0 None (there old 0 (Some t.pass) t.at_pass); sits = t.sits }
 
-pub close-ends-requires : goal.close-ends-requires
-close-ends-requires g c =
+pub close-ends-requires-clause-passes : goal.close-ends-requires-clause-passes
+close-ends-requires-clause-passes g c =
     let cells = cells_of c.in-Ok.tier in
     let rows = c.in-Ok.passes.items in
     let f = c.in-Ok.ensures.passes in

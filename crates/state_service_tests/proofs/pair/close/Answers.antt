@@ -5,8 +5,8 @@ use Rattle.region_tier_tests.proofs.SeenBoth.{rows_two}
 use Rattle.state_service_tests.proofs.OneKey.{row_of, last_one, closes_one}
 use Rattle.state_service_tests.proofs.pair.close.Goals as goal
 
-pub close-ends-requires : goal.close-ends-requires
-close-ends-requires c =
+pub close-ends-requires-clause-passes : goal.close-ends-requires-clause-passes
+close-ends-requires-clause-passes c =
     let first = c.args.first in
     let second = c.args.second in
     let one = c.requires.tier.0.1.one in

@@ -9,8 +9,8 @@ use Rattle.state_service_tests.proofs.pair.open.Goals as goal
 pub global-requires-clause-fit : goal.global-requires-clause-fit
 global-requires-clause-fit c = fits_two c.in-Ok.init c.in-Ok.ensures
 
-pub close-requires : goal.close-requires
-close-requires c =
+pub close-requires-clause-passes : goal.close-requires-clause-passes
+close-requires-clause-passes c =
     let cells = cells_of c.in-Ok-global.globals in
     let rows = c.in-Ok-global.global_rows.items in
     subst (λ n. AreRows cells n rows) (sym c.in-Ok-global.ensures.makers) (fresh_are_rows cells 2 rows c.in-Ok-global.ensures.passes)

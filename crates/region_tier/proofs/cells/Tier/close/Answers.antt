@@ -15,21 +15,21 @@ use Rattle.region_tier.proofs.Ending.{RowLeft, ClosedFrom, all_left, end_with_pa
 use Rattle.region_tier.proofs.cells.Tier.close.Goals as goal
 
 pub loop-turns-init : goal.loop-turns-init
-loop-turns-init c = let a = c.args.self.ending.0 in record {
+loop-turns-init c = let a = c.args.room.ending in let r = c.requires.room in record {
   cells = ([], append-nil c.args.self.cells.items);
-  same = c.args.self.same;
-  homed = c.args.self.homed;
+  same = r.homes;
+  homed = λ k h low. (c.args.room.homed k h low, r.makers k h low);
   ends = let n = ap length a in omega (arith, n);
-  room = refl;
+  room = r.keys;
   long = refl;
-  rows = all_left (cells_of c.args.self) c.args.self.numbers c.args.passes.items c.requires;
+  rows = all_left (cells_of c.args.self) c.args.self.numbers c.args.passes.items c.requires.passes;
   closed = λ k t e j is. absurd (let h = there (cells_of c.args.self) k t e in omega (arith, h, is));
 }
 
 pub gather-column-requires-clause-room : goal.gather-column-requires-clause-room
 gather-column-requires-clause-room c = let i = c.loop-turns.invariant in
     let h = all_last (λ h. (h.items ≡ []) × (vec_capacity h ≡ c.args.self.numbers)) c.pop-in-Some.new.self.items c.in-Some-pop.home (rw c.in-Some-pop.ensures.items at i.homed) in
-    h.1 ∙ (sym c.requires.0 ∙ sym i.long)
+    h.1 ∙ (sym c.requires.passes.0 ∙ sym i.long)
 
 pub gather-column-requires-clause-empty : goal.gather-column-requires-clause-empty
 gather-column-requires-clause-empty c = let i = c.loop-turns.invariant in
@@ -41,13 +41,13 @@ gather-column-requires-clause-there c = let i = c.loop-turns.invariant in
     let n = length c.pop.new.self.items in
     let pre = subst (λ l. IsPrefix l c.args.self.cells.items) items i.cells in
     let left = subst (λ m. Each c.args.passes.items (RowLeft c.loop-turns.passes.items m)) (ap length items ∙ length-append c.pop.new.self.items (c.in-Some.turns ∷ [])) i.rows in
-    end_with_pass (cells_of c.args.self) c.args.self.numbers c.args.passes.items c.loop-turns.passes.items n c.in-Some.turns c.requires i.long left (at_end c.pop.new.self.items (cells_of c.args.self) c.in-Some.turns pre)
+    end_with_pass (cells_of c.args.self) c.args.self.numbers c.args.passes.items c.loop-turns.passes.items n c.in-Some.turns c.requires.passes i.long left (at_end c.pop.new.self.items (cells_of c.args.self) c.in-Some.turns pre)
 
 pub close-requires-clause-count : goal.close-requires-clause-count
 close-requires-clause-count c = let i = c.loop-turns.invariant in
     let pre = subst (λ l. IsPrefix l c.args.self.cells.items) c.in-Some.ensures.items i.cells in
     let o = all_at (λ t. IsOpened t × (numbers_of t ≡ c.args.self.numbers)) (cells_of c.args.self) (length c.pop.new.self.items) c.in-Some.turns (at_end c.pop.new.self.items (cells_of c.args.self) c.in-Some.turns pre) c.args.self.opened in
-    c.gather-column.ensures.count ∙ (i.long ∙ (c.requires.0 ∙ sym o.1))
+    c.gather-column.ensures.count ∙ (i.long ∙ (c.requires.passes.0 ∙ sym o.1))
 
 pub close-requires-clause-passes : goal.close-requires-clause-passes
 close-requires-clause-passes c = let i = c.loop-turns.invariant in
@@ -56,7 +56,7 @@ close-requires-clause-passes c = let i = c.loop-turns.invariant in
     let pre = subst (λ l. IsPrefix l c.args.self.cells.items) items i.cells in
     let left = subst (λ m. Each c.args.passes.items (RowLeft c.loop-turns.passes.items m)) (ap length items ∙ length-append c.pop.new.self.items (c.in-Some.turns ∷ [])) i.rows in
     let back = came_back c.args.passes.items c.loop-turns.passes.items c.gather-column.new.rows.items c.gather-column.result.items n i.long left c.gather-column.ensures.gathered in
-    are_passes (cells_of c.args.self) c.args.self.numbers c.args.passes.items c.gather-column.new.rows.items c.gather-column.result.items n c.in-Some.turns c.requires (at_end c.pop.new.self.items (cells_of c.args.self) c.in-Some.turns pre)
+    are_passes (cells_of c.args.self) c.args.self.numbers c.args.passes.items c.gather-column.new.rows.items c.gather-column.result.items n c.in-Some.turns c.requires.passes (at_end c.pop.new.self.items (cells_of c.args.self) c.in-Some.turns pre)
     (c.gather-column.ensures.count ∙ i.long) back
 
 pub loop-turns-preserved : goal.loop-turns-preserved

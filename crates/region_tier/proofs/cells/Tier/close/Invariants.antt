@@ -13,7 +13,7 @@ invariant-loop-turns l = record {
   same : length l.homes.items ≡ length l.cells.items;
   homed : All (λ h. (h.items ≡ []) × (vec_capacity h ≡ l.fn.self.numbers)) l.homes.items;
   ends : length l.ends.items + length l.cells.items ≡ length l.fn.self.cells.items;
-  room : vec_capacity l.ends ≡ vec_capacity l.fn.self.ends;
+  room : vec_capacity l.ends ≡ vec_capacity l.fn.self.cells;
   long : length l.passes.items ≡ length l.fn.passes.items;
   rows : Each l.fn.passes.items (RowLeft l.passes.items (length l.cells.items));
   closed : ClosedFrom l.fn.self.cells.items l.fn.passes.items l.ends.items (length l.cells.items);

@@ -14,8 +14,9 @@ loop-size-preserved c = let i = c.loop-size.invariant in let e = c.in_ok-grown.e
     record {
       numbered = e.same.0 ∙ i.numbered;
       room = e.same.1 ∙ i.room;
-      rooms = subst (λ m. HaveRoom m c.in_ok-grown.grown.1.items) i.room e.same.2;
-      fresh = subst (λ m. AreFreshRows (cells_of c.in_ok-grown.grown.0) m c.in_ok-grown.grown.1.items) i.numbered e.passes;
+      rooms = subst (λ m. HaveRoom m c.in_ok-grown.grown.2.items) i.room e.same.2;
+      closing = e.closing;
+      fresh = subst (λ m. AreFreshRows (cells_of c.in_ok-grown.grown.0) m c.in_ok-grown.grown.2.items) i.numbered e.passes;
       count = a.0;
       cells = a.1;
     }
