@@ -1,0 +1,9 @@
+pub mod Sums
+pub mod Counts
+pub mod Calls
+pub mod Takes
+pub mod Ends
+pub mod Tells
+pub mod Stores
+pub mod Modes
+pub mod Granted

@@ -1,0 +1,4 @@
+pub mod AnsweredBy
+pub mod Parts
+pub mod Ran
+pub mod Runs
