@@ -1,0 +1,4 @@
+pub mod Coming
+pub mod Ends
+pub mod Jobs
+pub mod Turning

@@ -1,0 +1,4 @@
+pub mod Coming
+pub mod Ending
+pub mod Taking
+pub mod Turned
