@@ -1,0 +1,13 @@
+mod Regions
+mod Hearing
+mod Makers
+mod Requests
+mod Over
+mod Unlocked
+mod Objects
+mod Hosts
+mod Counted
+mod Calls
+mod Whole
+mod One
+mod Alone

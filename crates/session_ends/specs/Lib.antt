@@ -1,0 +1,4 @@
+pub mod Bench
+pub mod Ended
+pub mod Opened
+pub mod Session
