@@ -1,0 +1,10 @@
+pub mod Forms
+pub mod Told
+pub mod Parts
+pub mod Keys
+pub mod State
+pub mod Table
+pub mod Few
+pub mod Ends
+pub mod Begins
+pub mod Growing

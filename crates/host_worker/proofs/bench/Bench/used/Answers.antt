@@ -1,0 +1,12 @@
+-- By where the Faaslet stands.
+use Rattle.std.proofs.Common.{refl, arith}
+use Rattle.faaslet_meaning.specs.CallState.{over}
+use Rattle.host_worker.specs.Busy.{first_of, invocation_of}
+use Rattle.host_worker.proofs.bench.Bench.used.Goals as goal
+
+pub returns : goal.returns
+returns c e t o x =
+    let a = c.used.ensures (invocation_of e) (first_of e) t (over x.last o) x.last x.at refl in
+    let b = x.used_so in
+    let d = x.fuel_so in
+    omega (arith, a, b, d)
