@@ -47,7 +47,7 @@ FAASM_IMPORT(state_used) uint32_t faasm_state_used(uint32_t k);
 // Maps the replica of key k behind all memory and gives its address, the same one each time; whole pages, so bytes past the size
 // are memory too, which this host's calls share and no push takes along. Each load and store there is an operation on the replica:
 // it waits as such, and a store that was granted for reading only traps `denied`. Read. Waits: replica. Traps: bad key, too many
-// mappings (a 17th key), map full.
+// mappings (a 17th key), map full (more than 65,536 pages in all, which no session's limits leave room for).
 FAASM_IMPORT(get_state) void *faasm_get_state(uint32_t k);
 // Copies len bytes of key k's replica from off to ptr. Read. Waits: replica (a replica that is absent is filled first, and that waits
 // for the global value; so it is with each call here that waits for the replica). Traps: bad key, state range.
@@ -91,7 +91,7 @@ FAASM_IMPORT(read_input) void faasm_read_input(uint32_t off, void *ptr, uint32_t
 FAASM_IMPORT(write_output) void faasm_write_output(const void *ptr, uint32_t len);
 // Calls function f with len bytes at ptr as input and doesn't wait for it; gives the child's number. Traps: bad function; chain
 // full where a request with all calls below it would have more than 1,024 calls, or more than 2,097,152 bytes of inputs and rooms for
-// output, or where this call has depth 8 already.
+// output, or where this call has depth 8, a request having depth 1.
 FAASM_IMPORT(chain_call) uint32_t faasm_chain_call(uint32_t f, const void *ptr, uint32_t len);
 // Waits until child c has ended; gives its status times 2^32 plus its result. As often as you like. Traps: bad child.
 FAASM_IMPORT(await_call) uint64_t faasm_await_call(uint32_t c);

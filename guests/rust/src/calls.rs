@@ -13,7 +13,8 @@ impl Function {
     }
 
     /// Calls it with this input and doesn't wait for it. Traps: bad function; chain full where a request with all calls below it would have
-    /// more than 1,024 calls, or more than 2,097,152 bytes of inputs and rooms for output, or where this call has depth 8 already.
+    /// more than 1,024 calls, or more than 2,097,152 bytes of inputs and rooms for output, or where this call has depth 8, a request
+    /// having depth 1.
     pub fn chain(self, input: &[u8]) -> Child {
         let (ptr, len) = buffer_in(input);
         // SAFETY: the host reads these bytes.

@@ -26,7 +26,7 @@ impl Key {
     }
 
     /// Maps the replica behind all memory and gives its values, as many as the key's size has whole ones; the same ones each time.
-    /// Read. Waits: replica. Traps: bad key, too many mappings (a 17th key), map full.
+    /// Read. Waits: replica. Traps: bad key, too many mappings (a 17th key).
     pub fn map<T: Plain>(self) -> &'static [Shared<T>] {
         let count = self.size() / core::mem::size_of::<T>();
         // SAFETY: the mapping begins at a page and stays until the call ends; it has at least the key's size, and its bytes are
