@@ -1,0 +1,10 @@
+pub mod Growing
+pub mod Moving
+pub mod Holding
+pub mod Rows
+pub mod Dealt
+pub mod Back
+pub mod Limits
+pub mod Ends
+pub mod Dealing
+pub mod Returned

@@ -1,0 +1,5 @@
+pub mod Shape
+pub mod Lists
+pub mod Parts
+pub mod Rests
+pub mod Ended
